@@ -1,0 +1,3 @@
+pub mod Drains
+pub mod Lists
+pub mod Quotas

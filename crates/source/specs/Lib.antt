@@ -1,0 +1,7 @@
+pub mod Refusals
+pub mod Meaning
+pub mod Opening
+pub mod Stored
+pub mod Layers
+pub mod Draining
+pub mod Short
