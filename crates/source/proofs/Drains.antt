@@ -95,13 +95,12 @@ module _ {F : Type 0} where
         let count : n ≡ taken (length list) m = omega arith in
         let roomy = cond-true (ltb (length (m .tokens)) (length list)) (stop (m .last)) why.Full (grind (arith, tells)) in
         let last-is : there .last ≡ m .last = ap (λ (x : Meaning F). x .last) (so-far .after) in
-        let ends-so : s ≡ cond (ltb (length (m .tokens)) (length list)) (stop (m .last)) why.Full = none .1 ∙ ap stop last-is ∙ sym roomy in
-        (
+        let ends-so : s ≡ cond (ltb (length (m .tokens)) (length list)) (stop (m .last)) why.Full = none .1 ∙ ap stop last-is ∙ sym roomy in (
           λ i. record { tokens = count i; stop = ends-so i },
           moved
-          ∙ ap (λ (x : Meaning F). left 1 x) (so-far .after)
-          ∙ ap (λ (ts : List Token). record { tokens = drop 1 ts; last = m .last }) gone
-          ∙ ap (λ (ts : List Token). record { tokens = ts; last = m .last }) (sym gone ∙ ap (λ k. drop k (m .tokens)) count),
+              ∙ ap (λ (x : Meaning F). left 1 x) (so-far .after)
+              ∙ ap (λ (ts : List Token). record { tokens = drop 1 ts; last = m .last }) gone
+              ∙ ap (λ (ts : List Token). record { tokens = ts; last = m .last }) (sym gone ∙ ap (λ k. drop k (m .tokens)) count),
           so-far .written ∙ ap (λ k. take k (m .tokens) ++ drop k list) count,
         )
 
@@ -109,8 +108,7 @@ module _ {F : Type 0} where
   pub drains-full : (m : Meaning F) (list : List Token) (n : ℕ) (here : List Token) (there : Meaning F) → Drains m list n here there → length list ≤ n → (record { tokens = n; stop = why.Full } ≡ drained (length list) m) × (there ≡ after-draining (length list) m) × (here ≡ filled list m)
   drains-full m list n here there so-far full =
       let count : n ≡ taken (length list) m = omega (arith, so-far .few, so-far .fits) in
-      let narrow = cond-false (ltb (length (m .tokens)) (length list)) (stop (m .last)) why.Full (grind (arith, tells, so-far .few, so-far .fits)) in
-      (
+      let narrow = cond-false (ltb (length (m .tokens)) (length list)) (stop (m .last)) why.Full (grind (arith, tells, so-far .few, so-far .fits)) in (
         λ i. record { tokens = count i; stop = sym narrow i },
         so-far .after ∙ ap (λ k. left k m) count,
         so-far .written ∙ ap (λ k. take k (m .tokens) ++ drop k list) count,

@@ -3,6 +3,7 @@ ghost use mathlib.Core.Path.{_≡_};
 ghost use lib.ListN.{length};
 ghost use Rattle.source.specs.Draining.{drained, after-draining, filled};
 use crate::fault::Faulted;
+use crate::fault::FaultedClone;
 use crate::fault::FaultedDebug;
 use crate::fault::FaultedPartialEq;
 use crate::source::Source;
@@ -11,7 +12,6 @@ use crate::token::Place;
 use crate::token::PlaceDebug;
 use crate::token::PlacePartialEq;
 use crate::token::Token;
-use crate::fault::FaultedClone;
 
 /// Why a drain stopped: the source's last entry came, or the list was full before.
 #[derive(Clone, Copy, PartialEq, Eq, Debug)]
