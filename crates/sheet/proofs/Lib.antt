@@ -1,0 +1,9 @@
+pub mod Alone
+pub mod Fronts
+pub mod Laws
+pub mod Positions
+pub mod Reading
+pub mod Runs
+pub mod Sound
+pub mod Standing
+pub mod Steps

@@ -1,0 +1,11 @@
+pub mod Faults
+pub mod Kinds
+pub mod Lexemes
+pub mod Spans
+pub mod Scan
+pub mod Pieces
+pub mod Scanners
+pub mod Short
+pub mod Places
+pub mod Reads
+pub mod Laws
