@@ -12,10 +12,10 @@ use Rattle.std.specs.shelf.Lists.{leading}
 use Rattle.std.proofs.shelf.Lists.{take-at, drop-at}
 use Rattle.std.proofs.shelf.Tests.{cond-true, cond-false, le-leb, lt-leb}
 use Rattle.std.proofs.shelf.Ways.{tells}
-use Rattle.bytes.specs.Classes.{class-of, blank, letter, digit}
+use Rattle.bytes.specs.Classes.{class-of, letter, digit}
 use Rattle.bytes.specs.Keywords.{keyword-of}
 use Rattle.bytes.specs.declared.class.Class.{Class}
-use Rattle.bytes.specs.declared.class.Class.the-variants.{Letter, Digit, Blank}
+use Rattle.bytes.specs.declared.class.Class.the-variants.{Letter, Digit}
 use Rattle.source.specs.Meaning.{Last}
 use Rattle.source.specs.declared.token.Place.the-variants.{Two}
 use Rattle.sheet.specs.Faults.{fault-number}
@@ -29,16 +29,13 @@ use Rattle.sheet.specs.declared.fault.ScanFault.the-variants.{NoClass, OpenQuo
 use Rattle.sheet.specs.declared.span.Span.the-variants.{Letters, Digits, Name, Comment}
 use Rattle.sheet.proofs.Positions.{moved-blank, lexical-moves}
 use Rattle.sheet.proofs.Runs.{leading-run}
-use Rattle.sheet.proofs.Steps.{token-step, fault-step}
+use Rattle.sheet.proofs.Steps.{blank-class, token-step, fault-step}
 
 letter-class : (b : ℕ) → letter b ≡ true → class-of b ≡ Letter
 letter-class b e = grind (arith, tells)
 
 digit-class : (b : ℕ) → digit b ≡ true → class-of b ≡ Digit
 digit-class b e = grind (arith, tells)
-
-blank-class : (b : ℕ) → blank b ≡ true → class-of b ≡ Blank
-blank-class b e = grind (arith, tells)
 
 -- a run that is not empty decides the class of the first byte
 letters-front : (w rest : List ℕ) → Run (member Letters) w rest → 0 < length w → front (w ++ rest) ≡ limited (word-kind (keyword-of w)) (length w)
@@ -75,8 +72,7 @@ Found kind w rest = (front (w ++ rest) ≡ token kind (length w)) × (0 < length
 
 name-found : (inner rest : List ℕ) → Run (member Name) inner (34 ∷ rest) → Found 3 (34 ∷ (inner ++ 34 ∷ [])) rest
 name-found inner rest r =
-    let long : length inner + 2 ≡ length (34 ∷ (inner ++ 34 ∷ [])) = omega (arith, length-append inner (34 ∷ [])) in
-    (
+    let long : length inner + 2 ≡ length (34 ∷ (inner ++ 34 ∷ [])) = omega (arith, length-append inner (34 ∷ [])) in (
       ap (λ v. front (34 ∷ v)) (append-assoc inner (34 ∷ []) rest) ∙ quote-front inner (34 ∷ rest) r ∙ ap (token 3) long,
       omega arith,
     )

@@ -55,7 +55,7 @@ pub end-step : (s : List ℕ) (line column : ℕ) → front s ≡ ending → sca
 end-step [] line column e = refl
 end-step (b ∷ bs) line column e = ap (λ f. go-on f (b ∷ bs) line column (λ k l c. scan-from k bs l c)) e
 
-blank-class : (b : ℕ) → blank b ≡ true → class-of b ≡ Blank
+pub blank-class : (b : ℕ) → blank b ≡ true → class-of b ≡ Blank
 blank-class b e = grind (arith, tells)
 
 class-blank : (b : ℕ) → class-of b ≡ Blank → blank b ≡ true

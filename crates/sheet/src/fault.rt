@@ -1,7 +1,9 @@
 //! What can be wrong with a sheet.
 ghost use mathlib.Core.Path.{_≡_};
-ghost use Rattle.sheet.specs.Faults.{fault-number};
+ghost use Rattle.std.specs.declared.option.Option.the-variants.{Some};
+ghost use Rattle.sheet.specs.Faults.{fault-number, reason-of};
 use source::Numbered;
+use std::fmt;
 
 /// A fault of a sheet: a byte of no class; a quote that is not closed on its line, before a hash; a word or a number of more
 /// than 32 bytes.
@@ -21,5 +23,26 @@ pub impl Numbered for ScanFault as ScanFaultNumbered {
             ScanFault::OpenQuote => 20,
             ScanFault::Oversized => 21,
         }
+    }
+}
+
+impl ScanFault {
+    /// What is wrong, in words.
+    pub fn reason(&self) -> &'static str
+        ensures { λ r. ⌜ now r ≡ reason-of (now (self .entry)) ⌝ }
+    {
+        match self {
+            ScanFault::NoClass => "byte of no class",
+            ScanFault::OpenQuote => "quote not closed",
+            ScanFault::Oversized => "word or number over 32 bytes",
+        }
+    }
+}
+
+pub impl fmt::Display for ScanFault as ScanFaultDisplay {
+    ghost shown = { λ f. Some (reason-of f) };
+
+    fn fmt<W: fmt::Write>(&self, f: &mut fmt::Formatter<W>) -> fmt::Result {
+        f.write_str(self.reason())
     }
 }

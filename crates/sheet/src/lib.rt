@@ -8,6 +8,7 @@ mod span;
 
 pub use fault::ScanFault;
 pub use fault::ScanFaultDebug;
+pub use fault::ScanFaultDisplay;
 pub use fault::ScanFaultNumbered;
 pub use fault::ScanFaultPartialEq;
 pub use lexeme::Lexeme;

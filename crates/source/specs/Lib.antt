@@ -4,4 +4,5 @@ pub mod Opening
 pub mod Stored
 pub mod Layers
 pub mod Draining
+pub mod Shown
 pub mod Short

@@ -6,6 +6,7 @@
 mod draining;
 mod fault;
 mod layer;
+mod show;
 mod source;
 mod stored;
 mod token;
@@ -35,6 +36,8 @@ pub use layer::Quota;
 pub use layer::QuotaSource;
 pub use layer::Skip;
 pub use layer::SkipSource;
+pub use show::PlaceDisplay;
+pub use show::TooLongDisplay;
 pub use source::Source;
 pub use stored::StoredList;
 pub use stored::open::StoredListSource;
