@@ -1,4 +1,5 @@
--- What stands at the front of a text.
+-- What the code cuts off by counting is what the definition wants: a run of n bytes is the text's first n, and what follows the bytes of a
+-- name decides whether it is closed.
 use mathlib.Core.Path.{_≡_, refl, sym, ap, subst, _∙_}
 use mathlib.Core.Bool.{Bool, true, false, cond}
 use mathlib.Core.List.{List, [], _∷_}

@@ -1,7 +1,7 @@
 -- What `front` finds is what the relation names: by the class of the first byte, the bytes of a token are a longest run, a closed
 -- name, a mark, a line end or a comment, and a fault is one that the relation has.
 use mathlib.Core.Path.{_≡_, refl, sym, ap, subst, _∙_}
-use mathlib.Core.Bool.{true, false}
+use mathlib.Core.Bool.{Bool, true, false}
 use mathlib.Core.List.{List, [], _∷_, _++_}
 use Prim.Native.Nat.{ℕ, zero, suc, _+_, _≤_, _<_}
 use native.Mathlib.Numerals.{one-add, add-two}
@@ -19,8 +19,8 @@ use Rattle.bytes.specs.declared.class.Class.{Class}
 use Rattle.bytes.specs.declared.class.Class.the-variants.{Letter, Digit, Blank, LineEnd, Mark, Quote, Hash, Other}
 use Rattle.sheet.specs.Faults.{fault-number}
 use Rattle.sheet.specs.Kinds.{word-kind}
-use Rattle.sheet.specs.Reads.{Begins, Lexical, Wrong, is-number, is-word, is-name, is-mark, is-line-end, is-comment, no-class, open-quote, long-number, long-word}
-use Rattle.sheet.specs.Scan.{Front, ending, gap, token, fault, closed, by-class}
+use Rattle.sheet.specs.Reads.{Begins, Run, Lexical, Wrong, is-number, is-word, is-name, is-mark, is-line-end, is-comment, no-class, open-quote, long-number, long-word}
+use Rattle.sheet.specs.Scan.{Front, ending, gap, token, fault, limited, closed, by-class}
 use Rattle.sheet.specs.Spans.{member}
 use Rattle.sheet.specs.declared.fault.ScanFault.the-variants.{OpenQuote, Oversized}
 use Rattle.sheet.specs.declared.span.Span.the-variants.{Letters, Digits, Name, Comment}
@@ -46,28 +46,26 @@ quote-is b e = grind (arith, tells)
 hash-is : (b : ℕ) → class-of b ≡ Hash → b ≡ 35
 hash-is b e = grind (arith, tells)
 
--- a word or a number, within its limit or past it
-word-sound : (b : ℕ) (bs : List ℕ) → class-of b ≡ Letter → Sound b bs (by-class Letter (b ∷ bs))
-word-sound b bs e =
-    let p = member Letters in
+-- a run that has a limit, within it or past it
+limited-sound : (p : ℕ → Bool) (kind b : ℕ) (bs : List ℕ) → p b ≡ true → ((w rest : List ℕ) → w ≡ take (leading p (b ∷ bs)) (b ∷ bs) → Run p w rest → 0 < length w → length w ≤ 32 → Lexical kind w rest) → ((w rest : List ℕ) → b ∷ bs ≡ w ++ rest → Run p w rest → 32 < length w → Wrong 21 (b ∷ bs)) → Sound b bs (limited kind (leading p (b ∷ bs)))
+limited-sound p kind b bs first lexical wrong =
     let s = b ∷ bs in
     let n = leading p s in
-    let some = first-belongs p s (omega arith) (letter-belongs b e) in
+    let some = first-belongs p s (omega arith) first in
     let long = length-run p s in
-    cond-both (leb n 32) (token (word-kind (keyword-of (take n s))) n) (fault Oversized) (Sound b bs)
-    (λ h. (some, leading-le-length p s, is-word refl (run p s) (omega arith) (omega (arith, leb-true n 32 h))))
-    (λ h. long-word (take n s) (drop n s) refl (sym (take-append-drop n s)) (run p s) (omega (arith, leb-false n 32 h)))
+    cond-both (leb n 32) (token kind n) (fault Oversized) (Sound b bs)
+    (λ h. (some, leading-le-length p s, lexical (take n s) (drop n s) refl (run p s) (omega arith) (omega (arith, leb-true n 32 h))))
+    (λ h. wrong (take n s) (drop n s) (sym (take-append-drop n s)) (run p s) (omega (arith, leb-false n 32 h)))
+
+word-sound : (b : ℕ) (bs : List ℕ) → class-of b ≡ Letter → Sound b bs (by-class Letter (b ∷ bs))
+word-sound b bs e =
+    limited-sound (member Letters) (word-kind (keyword-of (take (leading (member Letters) (b ∷ bs)) (b ∷ bs)))) b bs (letter-belongs b e)
+    (λ w rest is. is-word (ap (λ v. word-kind (keyword-of v)) (sym is)))
+    (λ w rest. long-word w rest refl)
 
 number-sound : (b : ℕ) (bs : List ℕ) → class-of b ≡ Digit → Sound b bs (by-class Digit (b ∷ bs))
 number-sound b bs e =
-    let p = member Digits in
-    let s = b ∷ bs in
-    let n = leading p s in
-    let some = first-belongs p s (omega arith) (digit-belongs b e) in
-    let long = length-run p s in
-    cond-both (leb n 32) (token 1 n) (fault Oversized) (Sound b bs)
-    (λ h. (some, leading-le-length p s, is-number refl (run p s) (omega arith) (omega (arith, leb-true n 32 h))))
-    (λ h. long-number (take n s) (drop n s) refl (sym (take-append-drop n s)) (run p s) (omega (arith, leb-false n 32 h)))
+    limited-sound (member Digits) 1 b bs (digit-belongs b e) (λ w rest is. is-number refl) (λ w rest. long-number w rest refl)
 
 -- a hash and the rest of the line
 comment-sound : (bs : List ℕ) → Sound 35 bs (by-class Hash (35 ∷ bs))

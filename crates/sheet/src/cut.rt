@@ -18,7 +18,7 @@ use bytes::keyword_of;
 const MOST: usize = 32;
 
 /// What stands at the front of a text that does not begin with a blank.
-pub enum Piece<'a> {
+pub(crate) enum Piece<'a> {
     End,
     Lexeme(Lexeme<'a>),
     Fault(ScanFault),
@@ -72,7 +72,7 @@ fn name<'a>(text: &'a [u8]) -> Piece<'a>
 }
 
 /// Cuts off what stands at the front.
-pub fn cut<'a>(text: &'a [u8]) -> Piece<'a>
+pub(crate) fn cut<'a>(text: &'a [u8]) -> Piece<'a>
     requires { ⌜ (front (now text) ≡ gap → ⊥) ⌝ }
     ensures { λ r. ⌜ Cut (front (now (text .entry))) (now (text .entry)) r ⌝ }
 {

@@ -9,7 +9,7 @@ use bytes::class_of;
 
 /// What a run consists of: bytes of one class, or of any class but those that end a name or a comment.
 #[derive(Clone, Copy)]
-pub enum Span {
+pub(crate) enum Span {
     Letters,
     Digits,
     Blanks,
@@ -33,7 +33,7 @@ fn belongs(span: Span, byte: u8) -> bool
 }
 
 /// How many bytes at the front belong to the run: as many as possible.
-pub fn span_len(text: &[u8], span: Span) -> usize
+pub(crate) fn span_len(text: &[u8], span: Span) -> usize
     ensures longest { λ r. ⌜ r ≡ leading (member span) (now (text .entry)) ⌝ }
     ensures within { λ r. ⌜ r ≤ length (now (text .entry)) ⌝ }
 {

@@ -1,3 +1,2 @@
 pub mod Drains
-pub mod Lists
 pub mod Quotas

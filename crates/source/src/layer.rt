@@ -1,6 +1,6 @@
 //! Layers: sources that stand over any source, other layers included.
 ghost use mathlib.Core.Path.{_≡_};
-ghost use Rattle.source.specs.Layers.{skip-of, quota-of, skipped, Quota-law};
+ghost use Rattle.source.specs.Layers.{skip-of, quota-of, skipped, allowed, Quota-law};
 ghost use Rattle.source.specs.Short.{skipped-short, quota-short};
 use crate::fault::Faulted;
 use crate::fault::FaultedLift;
@@ -58,7 +58,7 @@ pub struct Quota<S> {
 impl<S: Source> Quota<S> {
     /// Lets this many tokens pass from now on.
     pub fn new(source: S, most: u32) -> Self
-        ensures { λ r. ⌜ Quota-law most (S·Source .meaning source) (quota-of (S·Source .meaning) r) ⌝ }
+        ensures { λ r. ⌜ quota-of (S·Source .meaning) r ≡ allowed most (S·Source .meaning source) ⌝ }
     {
         Quota {
             source,
@@ -98,3 +98,9 @@ pub impl<S: Source> Source for Quota<S> as QuotaSource {
         }
     }
 }
+
+/// What a quota over a source means, in words: the list below if it has at most so many tokens; otherwise the first of
+/// them, and then the fault at the place of the next. It does nothing; its contract is the law.
+pub fn quota_law<S: Source>(source: &S, most: u32)
+    ensures { λ _. ⌜ Quota-law most (S·Source .meaning (now (source .entry))) (allowed most (S·Source .meaning (now (source .entry)))) ⌝ }
+{}

@@ -2,7 +2,9 @@
 ghost use denote.Ref.{now};
 ghost use mathlib.Core.Path.{_≡_};
 ghost use mathlib.Core.List.{[], _∷_};
-ghost use lib.ListN.{length};
+ghost use Prim.Native.Nat.{_+_, _<_};
+ghost use lib.ListN.{length, drop};
+ghost use Rattle.std.specs.Options.{Cases as BySome};
 ghost use Rattle.source.specs.Opening.{Opening};
 ghost use Rattle.source.specs.Short.{stored-short};
 ghost use Rattle.source.specs.Stored.{listed, stored};
@@ -42,6 +44,17 @@ impl<'a> StoredList<'a> {
     }
 }
 
+/// The byte at an index, by what is left of the bytes there.
+fn byte_at(bytes: &[u8], at: usize) -> Option<u8>
+    ensures { λ r. ⌜ BySome r (drop at (now (bytes .entry)) ≡ []) (λ b. (at < length (now (bytes .entry))) × (drop at (now (bytes .entry)) ≡ b ∷ drop (at + 1) (now (bytes .entry)))) ⌝ }
+{
+    if at < bytes.len() {
+        Some(bytes[at])
+    } else {
+        None
+    }
+}
+
 pub impl<'a> Source for StoredList<'a> as StoredListSource {
     type Fault = Infallible;
 
@@ -50,13 +63,13 @@ pub impl<'a> Source for StoredList<'a> as StoredListSource {
     ghost short = { λ s. stored-short (now (s .kinds)) (s .given) (s .few) };
 
     fn next(&mut self) -> Result<Entry, Faulted<Infallible>> {
-        let at = self.given;
-        let place = Place::One(at as u32 + 1);
-        if at == self.kinds.len() {
-            return Ok(Entry::End(place));
-        }
-        let kind = self.kinds[at];
-        self.given = at + 1;
-        Ok(Entry::Given(Token { kind, place }))
+        let Some(kind) = byte_at(self.kinds, self.given) else {
+            return Ok(Entry::End(Place::One(self.kinds.len() as u32 + 1)));
+        };
+        self.given += 1;
+        Ok(Entry::Given(Token {
+            kind,
+            place: Place::One(self.given as u32),
+        }))
     }
 }
