@@ -11,6 +11,7 @@ use Rattle.sheet.specs.Faults.{fault-number}
 use Rattle.sheet.specs.Scan.{Spot, scan}
 use Rattle.sheet.specs.declared.fault.ScanFault.{ScanFault}
 
+-- a token of this kind, with these bytes, at this line and column
 abbrev pub spot : ℕ → List ℕ → ℕ → ℕ → Spot
 spot kind text line column = record { kind = kind; text = text; place = Two line column }
 
@@ -19,16 +20,21 @@ abbrev pub stop : Last ScanFault → Refusal
 stop (ends p) = record { number = 0; returned = numbers p }
 stop (faults f) = fault-refusal fault-number f
 
+-- the sheet has these tokens, and then the end or the fault of this number at this line and column
 abbrev pub Means : List ℕ → List Spot → ℕ → ℕ → ℕ → Type 0
 Means sheet spots number line column =
     (scan sheet .spots ≡ spots) × (stop (scan sheet .last) ≡ record { number = number; returned = line ∷ column ∷ [] })
 
+-- a quote, which stands in no literal
 abbrev pub quote : List ℕ
 quote = 34 ∷ []
 
+-- a line end
 abbrev pub line-end : List ℕ
 line-end = 10 ∷ []
 
+-- the empty sheet, words and numbers without blanks between them, lines, a closing line end, names, a range, open quotes, a byte of no
+-- class, and numbers of 32 and 33 bytes
 abbrev pub Sheets : Type 0
 Sheets =
     Means [] [] 0 1 1

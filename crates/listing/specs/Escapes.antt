@@ -18,6 +18,7 @@ escape b = codes "\\x" ++ glyph true (b / 16) ∷ glyph true (b % 16) ∷ []
 abbrev pub escaped : ℕ → List ℕ
 escaped b = cond (plain b) (b ∷ []) (escape b)
 
+-- one after the other
 abbrev pub escaped-text : List ℕ → List ℕ
 escaped-text [] = []
 escaped-text (b ∷ bs) = escaped b ++ escaped-text bs

@@ -24,6 +24,7 @@ abbrev pub kind-names : List (List ℕ)
 kind-names =
     [] ∷ codes "number" ∷ codes "word" ∷ codes "name" ∷ codes "colon" ∷ codes "equals" ∷ codes "comma" ∷ codes "semicolon" ∷ codes "minus" ∷ codes "zone" ∷ codes "curve" ∷ codes "set" ∷ codes "from" ∷ codes "to" ∷ codes "off" ∷ codes "line-end" ∷ codes "comment" ∷ []
 
+-- the name of a kind
 abbrev pub kind-name : ℕ → List ℕ
 kind-name kind = getD kind-names kind []
 
@@ -31,6 +32,7 @@ kind-name kind = getD kind-names kind []
 abbrev pub has-text : ℕ → Bool
 has-text kind = leb kind 3 || eqb kind 16
 
+-- a blank and the text, or nothing
 abbrev pub tail-text : ℕ → List ℕ → List ℕ
 tail-text kind text = cond (has-text kind) (codes " " ++ escaped-text text) []
 
@@ -52,6 +54,7 @@ fault-line f =
 abbrev pub too-long-line : TooLong → List ℕ
 too-long-line e = codes "refused " ++ (decimal (too-long e .number) ++ (codes " " ++ (decimal (e .length) ++ (codes ": " ++ reason-too-long))))
 
+-- what is printed of each line
 abbrev pub line-text : Line → List ℕ
 line-text (line.Token x p) = spot-line (spot-of x p)
 line-text (line.End p) = end-line p

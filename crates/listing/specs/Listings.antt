@@ -15,6 +15,7 @@ use Rattle.listing.specs.Lines.{spot-line, fault-line, end-line, too-long-line
 use Rattle.listing.specs.declared.line.Line.{Line}
 use Rattle.listing.specs.declared.line.Line.the-variants as line
 
+-- the line of the last entry
 abbrev pub last-line : Last ScanFault → List ℕ
 last-line (ends p) = end-line p
 last-line (faults f) = fault-line f
@@ -24,6 +25,7 @@ abbrev pub lines : List Spot → Last ScanFault → List ℕ
 lines [] l = last-line l ++ 10 ∷ []
 lines (t ∷ ts) l = spot-line t ++ (10 ∷ lines ts l)
 
+-- the listing of what a scanner has to come
 abbrev pub listing : Scanned → List ℕ
 listing m = lines (m .spots) (m .last)
 

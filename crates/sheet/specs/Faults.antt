@@ -11,6 +11,7 @@ fault-number NoClass = 19
 fault-number OpenQuote = 20
 fault-number Oversized = 21
 
+-- what is wrong, in words
 abbrev pub reason-of : ScanFault → List ℕ
 reason-of NoClass = codes "byte of no class"
 reason-of OpenQuote = codes "quote not closed"

@@ -7,6 +7,7 @@ use Rattle.bytes.specs.declared.class.Mark.the-variants.{Colon, Equals, Comma, 
 use Rattle.bytes.specs.declared.keyword.Keyword.{Keyword}
 use Rattle.bytes.specs.declared.keyword.Keyword.the-variants.{Zone, Curve, Set, From, To, Off}
 
+-- the marks : = , ; and -
 abbrev pub mark-kind : Mark → ℕ
 mark-kind Colon = 4
 mark-kind Equals = 5
@@ -14,6 +15,7 @@ mark-kind Comma = 6
 mark-kind Semicolon = 7
 mark-kind Minus = 8
 
+-- the six words
 abbrev pub keyword-kind : Keyword → ℕ
 keyword-kind Zone = 9
 keyword-kind Curve = 10

@@ -5,6 +5,7 @@ use Rattle.sheet.specs.Kinds.{mark-kind, keyword-kind}
 use Rattle.sheet.specs.declared.lexeme.Lexeme.{Lexeme}
 use Rattle.sheet.specs.declared.lexeme.Lexeme.the-variants.{Number, Word, Keyword, Name, Mark, LineEnd, Comment}
 
+-- the bytes that it borrows
 abbrev pub text-of : Lexeme → List ℕ
 text-of (Number s) = s .now
 text-of (Word s) = s .now
@@ -14,6 +15,7 @@ text-of (Keyword k s) = s .now
 text-of (LineEnd s) = s .now
 text-of (Comment s) = s .now
 
+-- the number of its kind
 abbrev pub kind-of : Lexeme → ℕ
 kind-of (Number s) = 1
 kind-of (Word s) = 2

@@ -8,6 +8,7 @@ use Rattle.sheet.specs.Scan.{Front, ending, token, fault}
 use Rattle.sheet.specs.declared.cut.Piece.{Piece}
 use Rattle.sheet.specs.declared.cut.Piece.the-variants.{End, Lexeme, Fault}
 
+-- what a piece is by the definition
 abbrev pub shape : Piece → Front
 shape End = ending
 shape (Lexeme x) = token (kind-of x) (length (text-of x))

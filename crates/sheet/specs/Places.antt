@@ -15,6 +15,7 @@ use Rattle.sheet.specs.declared.fault.ScanFault.{ScanFault}
 abbrev pub Position : Type 0
 Position = ℕ × ℕ
 
+-- as a source has it
 abbrev pub place : Position → Place
 place p = Two (p .0) (p .1)
 

@@ -20,6 +20,7 @@ use Rattle.sheet.specs.Spans.{member}
 use Rattle.sheet.specs.declared.fault.ScanFault.{ScanFault}
 use Rattle.sheet.specs.declared.span.Span.the-variants.{Letters, Digits, Name, Comment}
 
+-- the text begins with a byte that passes
 abbrev pub Begins : (ℕ → Bool) → List ℕ → Type 0
 Begins p [] = ⊥
 Begins p (b ∷ bs) = p b ≡ true

@@ -29,9 +29,11 @@ pub data Front : Type 0 where
 abbrev pub limited : ℕ → ℕ → Front
 limited kind len = cond (leb len 32) (token kind len) (fault Oversized)
 
+-- letters, as many as there are
 abbrev pub word-front : List ℕ → Front
 word-front s = let n = leading (member Letters) s in limited (word-kind (keyword-of (take n s))) n
 
+-- digits, as many as there are
 abbrev pub number-front : List ℕ → Front
 number-front s = limited 1 (leading (member Digits) s)
 
@@ -59,6 +61,7 @@ by-class Quote s = name-front s
 by-class Hash s = comment-front s
 by-class Other s = fault NoClass
 
+-- the front of any text
 abbrev pub front : List ℕ → Front
 front [] = ending
 front (b ∷ bs) = by-class (class-of b) (b ∷ bs)
@@ -74,16 +77,19 @@ pub record Scanned : Type 0 where
   pub spots : List Spot
   pub last : Last ScanFault
 
+-- a token, and then what follows it
 abbrev pub before : Spot → Scanned → Scanned
 before t m = record { spots = t ∷ m .spots; last = m .last }
 
+-- no token, but the last entry
 abbrev pub only : Last ScanFault → Scanned
 only l = record { spots = []; last = l }
 
--- the place behind a token of this kind and length
+-- the line behind a token of this kind: only a line end moves it
 abbrev pub line-after : ℕ → ℕ → ℕ
 line-after kind line = cond (eqb kind 15) (line + 1) line
 
+-- a line end is followed by column 1
 abbrev pub column-after : ℕ → ℕ → ℕ → ℕ
 column-after kind len column = cond (eqb kind 15) 1 (column + len)
 

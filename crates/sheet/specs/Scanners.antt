@@ -24,9 +24,11 @@ scanned s = scan-from 0 (now (s .rest)) (s .line) (s .column)
 abbrev pub token-of : Spot → Token
 token-of t = record { kind = t .kind; place = t .place }
 
+-- the meaning of a scanner as a source
 abbrev pub meaning-of : Scanned → Meaning ScanFault
 meaning-of m = record { tokens = map token-of (m .spots); last = m .last }
 
+-- a lexeme at a place, as the definition has it
 abbrev pub spot-of : lexeme.Lexeme → Place → Spot
 spot-of x p = record { kind = kind-of x; text = text-of x; place = p }
 

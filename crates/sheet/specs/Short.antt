@@ -13,6 +13,7 @@ step-few gap s line column rest n h = omega (arith, h 0 line (column + 1))
 step-few (token kind len) s line column rest n h = omega (arith, h (len - 1) (line-after kind line) (column-after kind len column))
 step-few (fault f) s line column rest n h = omega arith
 
+-- each token takes a byte at least
 pub few-tokens : (k : ℕ) (bs : List ℕ) (line column : ℕ) → length (scan-from k bs line column .spots) ≤ length bs
 few-tokens zero [] line column = omega arith
 few-tokens (suc k) [] line column = omega arith

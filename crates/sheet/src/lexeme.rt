@@ -1,5 +1,6 @@
 //! Lexemes.
 ghost use mathlib.Core.Path.{_≡_};
+ghost use lib.Dec.{eqb};
 ghost use Rattle.sheet.specs.Lexemes.{kind-of, text-of};
 use bytes::Keyword;
 use bytes::Mark;
@@ -53,6 +54,16 @@ impl<'a> Lexeme<'a> {
             Lexeme::Keyword(Keyword::Off, _) => 14,
             Lexeme::LineEnd(_) => 15,
             Lexeme::Comment(_) => 16,
+        }
+    }
+
+    /// Whether it ends its line.
+    pub fn is_line_end(self) -> bool
+        ensures { λ r. ⌜ r ≡ eqb (kind-of (self .entry)) 15 ⌝ }
+    {
+        match self {
+            Lexeme::LineEnd(_) => true,
+            _ => false,
         }
     }
 }

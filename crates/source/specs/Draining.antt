@@ -14,6 +14,7 @@ use Rattle.source.specs.Meaning.{Last, Meaning, ends, faults}
 abbrev pub taken : {F : Type 0} → ℕ → Meaning F → ℕ
 taken room m = min room (length (m .tokens))
 
+-- the last entry as a reason to stop
 abbrev pub stop : {F : Type 0} → Last F → Stop F
 stop (ends p) = End p
 stop (faults f) = Fault f

@@ -26,6 +26,7 @@ lifted (faults f) = faults (lift f)
 abbrev pub skipped : {F : Type 0} → ℕ → Meaning F → Meaning (LayerFault F)
 skipped c m = record { tokens = kept-by (λ t. not (eqb (t .kind) c)) (m .tokens); last = lifted (m .last) }
 
+-- what a skip means over a source
 abbrev pub skip-of : {S F : Type 0} → (S → Meaning F) → Skip S → Meaning (LayerFault F)
 skip-of below s = skipped (s .kind) (below (s .source))
 
@@ -43,6 +44,7 @@ abbrev pub past : {F : Type 0} → ℕ → List Token → Last F → Last (Layer
 past n [] l = lifted l
 past n (t ∷ ts) l = cond (eqb n 0) (used (t .place)) (past (n - 1) ts l)
 
+-- a quota of n tokens over a list
 abbrev pub allowed : {F : Type 0} → ℕ → Meaning F → Meaning (LayerFault F)
 allowed n m = record { tokens = front n (m .tokens); last = past n (m .tokens) (m .last) }
 
@@ -51,6 +53,7 @@ abbrev pub quota : {F : Type 0} → Option Place → ℕ → Meaning F → Meani
 quota (Some p) n m = record { tokens = []; last = used p }
 quota None n m = allowed n m
 
+-- what a quota means over a source
 abbrev pub quota-of : {S F : Type 0} → (S → Meaning F) → Quota S → Meaning (LayerFault F)
 quota-of below s = quota (s .over) (s .left) (below (s .source))
 

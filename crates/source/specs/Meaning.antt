@@ -15,6 +15,7 @@ pub data Last (F : Type 0) : Type 0 where
   ends : Place → Last F
   faults : Faulted F → Last F
 
+-- the tokens in their order, and then the last entry
 pub record Meaning (F : Type 0) : Type 0 where
   pub tokens : List Token
   pub last : Last F

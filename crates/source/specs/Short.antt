@@ -15,13 +15,16 @@ use Rattle.source.specs.Layers.{skipped, front, quota}
 use Rattle.source.specs.Meaning.{Meaning}
 use Rattle.source.specs.Stored.{placed}
 
+-- as many tokens as bytes
 pub placed-length : (kinds : List ℕ) (n : ℕ) → length (placed kinds n) ≡ length kinds
 placed-length [] n = refl
 placed-length (kind ∷ kinds) n = ap suc (placed-length kinds (n + 1))
 
+-- a stored list is opened on at most 60,000 bytes
 pub stored-short : (kinds : List ℕ) (n : ℕ) → length kinds ≤ 60000 → length (placed (drop n kinds) (n + 1)) ≤ 60000
 stored-short kinds n few = rw (placed-length, length-drop) (omega arith)
 
+-- a skip has no more tokens than the list below
 pub skipped-short : {F : Type 0} (c : ℕ) (m : Meaning F) → length (m .tokens) ≤ 60000 → length (skipped c m .tokens) ≤ 60000
 skipped-short c m few =
     let kept : Token → Bool = λ t. not (eqb (t .kind) c) in
@@ -35,6 +38,7 @@ front-length : (n : ℕ) (ts : List Token) → length (front n ts) ≤ length ts
 front-length n [] = omega arith
 front-length n (t ∷ ts) = cond-short (eqb n 0) (t ∷ front (n - 1) ts) _ (omega (arith, front-length (n - 1) ts))
 
+-- nor has a quota
 pub quota-short : {F : Type 0} (o : Option Place) (n : ℕ) (m : Meaning F) → length (m .tokens) ≤ 60000 → length (quota o n m .tokens) ≤ 60000
 quota-short (Some p) n m few = omega arith
 quota-short None n m few = omega (arith, front-length n (m .tokens))

@@ -14,11 +14,14 @@ abbrev pub place-text : Place → List ℕ
 place-text (One n) = decimal n
 place-text (Two line column) = decimal line ++ (codes ":" ++ decimal column)
 
+-- that is all that `{}` writes of a place
 abbrev pub shown-place : Place → Option (List ℕ)
 shown-place p = Some (place-text p)
 
+-- why too many bytes are refused
 abbrev pub reason-too-long : List ℕ
 reason-too-long = codes "more than 60,000 bytes"
 
+-- that is all that `{}` writes of the refusal
 abbrev pub shown-too-long : TooLong → Option (List ℕ)
 shown-too-long e = Some reason-too-long

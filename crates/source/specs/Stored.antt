@@ -18,6 +18,7 @@ placed (kind ∷ kinds) n = record { kind = kind; place = One n } ∷ placed kin
 abbrev pub stored-from : ℕ → List ℕ → Meaning Infallible
 stored-from n kinds = record { tokens = placed (drop n kinds) (n + 1); last = ends (One (length kinds + 1)) }
 
+-- what these kinds mean from their front
 abbrev pub stored : List ℕ → Meaning Infallible
 stored kinds = stored-from 0 kinds
 

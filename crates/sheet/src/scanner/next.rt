@@ -38,7 +38,7 @@ impl<'a> Scanner<'a> {
                 let len = lexeme.text().len();
                 let (_, rest) = text.split_at(len);
                 self.rest = rest;
-                if lexeme.kind() == 15 {
+                if lexeme.is_line_end() {
                     self.line = line + 1;
                     self.column = 1;
                 } else {

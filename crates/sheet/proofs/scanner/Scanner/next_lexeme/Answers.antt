@@ -3,14 +3,13 @@ use mathlib.Core.Bool.{true, false}
 use Prim.Native.Nat.{_+_}
 use native.Mathlib.Omega.{arith}
 use lib.ListN.{length, drop}
-use Rattle.std.proofs.shelf.Tests.{eq-eqb, ne-eqb}
 use Rattle.source.specs.declared.token.Place.the-variants.{Two}
 use Rattle.sheet.specs.Lexemes.{kind-of, text-of}
 use Rattle.sheet.specs.Scan.{scan-from, before, line-after, column-after}
 use Rattle.sheet.specs.Scanners.{scanned, spot-of}
 use Rattle.sheet.proofs.Steps.{arrive, fits, never-gap, gives-lexeme, gives-fault, gives-end}
 use Rattle.sheet.proofs.scanner.Scanner.next_lexeme.Needs as need
-use Rattle.sheet.proofs.scanner.Scanner.next_lexeme.Needs.{then-kind-eq15, else-kind-eq15}
+use Rattle.sheet.proofs.scanner.Scanner.next_lexeme.Needs.{then-is-line-end, else-is-line-end}
 
 pub cut-requires : need.cut-requires
 cut-requires c κs =
@@ -20,8 +19,8 @@ pub split-at-requires-in-Lexeme : need.split-at-requires-in-Lexeme
 split-at-requires-in-Lexeme c κs =
     omega (arith, ap length (c .text-len .ensures), fits _ (c .split-at .result .1 .now) (c .in-Lexeme .lexeme) (c .in-Lexeme .ensures tt))
 
-pub returns-after-kind-eq15 : need.returns-after-kind-eq15
-returns-after-kind-eq15 c =
+pub returns-after-is-line-end : need.returns-after-is-line-end
+returns-after-is-line-end c =
     let s = c .args .self .now in
     let n = c .span-len-blanks .result in
     let r = c .split-at .result .1 .now in
@@ -29,10 +28,10 @@ returns-after-kind-eq15 c =
     let len = length (text-of x) in
     let after = c .split-at-in-Lexeme .result .1 .now in
     let m = length (c .text-len .result .now) in
-    let there : scan-from 0 (drop len r) (line-after (kind-of x) (s .line)) (column-after (kind-of x) len (s .column + n)) ≡ scanned (c .if-kind-eq15 .self) =
-    elim (c .if-kind-eq15 .came) [
-      | then-kind-eq15 w ↦ arrive r after (s .line) (s .column + n) (kind-of x) len m true (sym (eq-eqb (kind-of x) 15 (sym (c .kind .ensures) ∙ w .if-kind-eq15 .taken))) (ap length (c .text-len .ensures)) (c .split-at-in-Lexeme .ensures .back) ∙ sym (ap scanned (w .self-is))
-      | else-kind-eq15 w ↦ arrive r after (s .line) (s .column + n) (kind-of x) len m false (sym (ne-eqb (kind-of x) 15 (λ e. w .if-kind-eq15 .left (c .kind .ensures ∙ e)))) (ap length (c .text-len .ensures)) (c .split-at-in-Lexeme .ensures .back) ∙ sym (ap scanned (w .self-is))
+    let there : scan-from 0 (drop len r) (line-after (kind-of x) (s .line)) (column-after (kind-of x) len (s .column + n)) ≡ scanned (c .if-is-line-end .self) =
+    elim (c .if-is-line-end .came) [
+      | then-is-line-end w ↦ arrive r after (s .line) (s .column + n) (kind-of x) len m true (sym (w .if-is-line-end .taken) ∙ c .is-line-end .ensures) (ap length (c .text-len .ensures)) (c .split-at-in-Lexeme .ensures .back) ∙ sym (ap scanned (w .self-is))
+      | else-is-line-end w ↦ arrive r after (s .line) (s .column + n) (kind-of x) len m false (sym (w .if-is-line-end .left) ∙ c .is-line-end .ensures) (ap length (c .text-len .ensures)) (c .split-at-in-Lexeme .ensures .back) ∙ sym (ap scanned (w .self-is))
     ] in
     gives-lexeme (s .rest .now) (s .line) (s .column) n r (c .span-len-blanks .ensures .longest) (c .split-at .ensures .back) x (c .in-Lexeme .ensures tt)
     ∙ ap (before (spot-of x (Two (s .line) (s .column + n)))) there
