@@ -1,7 +1,9 @@
 -- The class of a byte.
 use mathlib.Core.Bool.{Bool, cond, _&&_, _||_}
+use mathlib.Core.List.{List, map}
 use Prim.Native.Nat.{ℕ}
 use lib.Dec.{leb, eqb}
+use Rattle.std.specs.Iters.{counting}
 use Rattle.bytes.specs.declared.class.Class.{Class}
 use Rattle.bytes.specs.declared.class.Class.the-variants.{Letter, Digit, Blank, LineEnd, Quote, Hash, Other}
 use Rattle.bytes.specs.declared.class.Class.the-variants as class
@@ -33,3 +35,7 @@ class-of b =
     (cond (eqb b 45) (class.Mark Minus)
     (cond (eqb b 34) Quote
     (cond (eqb b 35) Hash Other))))))))))
+
+-- the classes of all bytes, in order
+abbrev pub classes : List Class
+classes = map class-of (counting 0 256)

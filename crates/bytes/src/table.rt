@@ -1,12 +1,20 @@
 //! The classes of all bytes as a table.
 ghost use mathlib.Core.Path.{_≡_};
-ghost use Rattle.bytes.specs.Classes.{class-of};
+ghost use lib.ListN.{getD};
+ghost use Rattle.bytes.specs.Classes.{class-of, classes};
+ghost use Rattle.bytes.specs.declared.class.Class.the-variants.{Letter};
 use crate::class::Class;
 use crate::class::Mark;
 
 /// The class of a byte, looked up: for runs, byte after byte.
 pub fn class_of(byte: u8) -> Class
     ensures { λ r. ⌜ r ≡ class-of byte ⌝ }
+{
+    entry(byte)
+}
+
+fn entry(byte: u8) -> Class
+    ensures { λ r. ⌜ r ≡ getD classes byte Letter ⌝ }
 {
     CLASSES[byte as usize]
 }

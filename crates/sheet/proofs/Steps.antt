@@ -141,6 +141,6 @@ module _ (s : List ℕ) (line column n : ℕ) (r : List ℕ) (blanks : n ≡ lea
   pub gives-end : Cut (front r) r piece.End → scan-from 0 s line column ≡ only (ends (Two line (column + n)))
   gives-end cut = behind ∙ end-step r line (column + n) (sym (cut .shaped))
 
--- the place behind a token, as the code reckons it: t says whether it is a line end
-pub arrive : (r after : List ℕ) (line column kind len m : ℕ) (t : Bool) → t ≡ eqb kind 15 → m ≡ len → after ≡ drop m r → scan-from 0 (drop len r) (line-after kind line) (column-after kind len column) ≡ scan-from 0 after (cond t (line + 1) line) (cond t 1 (column + m))
-arrive r after line column kind len m t is long e = cc
+-- what is left behind a token, as the code has it
+pub arrive : (r after : List ℕ) (line column kind len m line′ column′ : ℕ) → line′ ≡ line-after kind line → column′ ≡ column-after kind m column → m ≡ len → after ≡ drop m r → scan-from 0 (drop len r) (line-after kind line) (column-after kind len column) ≡ scan-from 0 after line′ column′
+arrive r after line column kind len m line′ column′ p q long e = cc

@@ -1,6 +1,9 @@
 //! Asking a scanner.
 ghost use denote.Ref.{now};
 ghost use mathlib.Core.Path.{_≡_};
+ghost use Prim.Native.Nat.{_+_, _^_, _<_};
+ghost use Rattle.sheet.specs.Lexemes.{kind-of};
+ghost use Rattle.sheet.specs.Scan.{line-after, column-after};
 ghost use Rattle.sheet.specs.Scanners.{scanned, meaning-of, Gives};
 ghost use Rattle.sheet.specs.Short.{few-left};
 use crate::cut::Piece;
@@ -23,6 +26,19 @@ pub enum Item<'a> {
     End(Place),
 }
 
+/// The line and the column behind a lexeme of so many bytes that stands here.
+fn place_behind(lexeme: Lexeme, len: u32, line: u32, column: u32) -> (u32, u32)
+    requires { ⌜ line < 2 ^ 31 ⌝ ∗ ⌜ column + len < 2 ^ 31 ⌝ }
+    ensures line { λ r. ⌜ r .0 ≡ line-after (kind-of (lexeme .entry)) line ⌝ }
+    ensures column { λ r. ⌜ r .1 ≡ column-after (kind-of (lexeme .entry)) len column ⌝ }
+{
+    if lexeme.is_line_end() {
+        (line + 1, 1)
+    } else {
+        (line, column + len)
+    }
+}
+
 impl<'a> Scanner<'a> {
     /// Gives the first lexeme and drops it; the end or a fault stays, however often it is asked for.
     pub fn next_lexeme(&mut self) -> Result<Item<'a>, Faulted<ScanFault>>
@@ -37,13 +53,10 @@ impl<'a> Scanner<'a> {
             Piece::Lexeme(lexeme) => {
                 let len = lexeme.text().len();
                 let (_, rest) = text.split_at(len);
+                let (line, column) = place_behind(lexeme, len as u32, line, column);
                 self.rest = rest;
-                if lexeme.is_line_end() {
-                    self.line = line + 1;
-                    self.column = 1;
-                } else {
-                    self.column = column + len as u32;
-                }
+                self.line = line;
+                self.column = column;
                 Ok(Item::Lexeme(lexeme, place))
             }
             Piece::Fault(fault) => Err(Faulted { fault, place }),

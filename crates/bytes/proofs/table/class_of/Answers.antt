@@ -1,8 +1,10 @@
--- The table is `class-of` at 0, 1, .. 255: both lists are computed and compared, entry by entry.
+-- An entry of the table is the class of its byte.
+use mathlib.Core.Path.{_∙_}
 use native.Mathlib.Omega.{arith}
 use Rattle.std.proofs.shelf.Counted.{getD-map-counting}
 use Rattle.bytes.specs.Classes.{class-of}
+use Rattle.bytes.specs.declared.class.Class.the-variants.{Letter}
 use Rattle.bytes.proofs.table.class_of.Needs as need
 
 pub returns : need.returns
-returns c = getD-map-counting class-of 0 256 (c .args .byte) (c .args .byte) _ (omega arith) (omega arith)
+returns c = c .entry .ensures ∙ getD-map-counting class-of 0 256 (c .args .byte) (c .args .byte) Letter (omega arith) (omega arith)
