@@ -5,7 +5,8 @@ use Prim.Native.Nat.{ℕ}
 use lib.Chars.{codes}
 use lib.ListN.{replicate}
 use Rattle.source.specs.Meaning.{Last, ends, faults}
-use Rattle.source.specs.Refusals.{Refusal, numbers, fault-refusal}
+use Rattle.refusal.specs.Refusal.{Refusal}
+use Rattle.source.specs.Refusals.{numbers, fault-refusal}
 use Rattle.source.specs.declared.token.Place.the-variants.{Two}
 use Rattle.sheet.specs.Faults.{fault-number}
 use Rattle.sheet.specs.Scan.{Spot, scan}

@@ -1,4 +1,5 @@
 //! Runs of the sources and their layers.
+use refusal::Numbered;
 use sheet::ScanFault;
 use sheet::ScanFaultDebug;
 use sheet::ScanFaultNumbered;
@@ -15,7 +16,6 @@ use source::LayerFault;
 use source::LayerFaultDebug;
 use source::LayerFaultNumbered;
 use source::LayerFaultPartialEq;
-use source::Numbered;
 use source::Place;
 use source::Quota;
 use source::QuotaSource;

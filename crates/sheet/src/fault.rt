@@ -2,7 +2,7 @@
 ghost use mathlib.Core.Path.{_≡_};
 ghost use Rattle.std.specs.declared.option.Option.the-variants.{Some};
 ghost use Rattle.sheet.specs.Faults.{fault-number, reason-of};
-use source::Numbered;
+use refusal::Numbered;
 use std::fmt;
 
 /// A fault of a sheet: a byte of no class; a quote that is not closed on its line, before a hash; a word or a number of more

@@ -1,17 +1,13 @@
--- Refusals and faults by their numbers, and what is returned with each.
+-- The refusals and faults of sources by their numbers, and what is returned with each.
 use mathlib.Core.List.{List, [], _∷_}
 use Prim.Native.Nat.{ℕ}
+use Rattle.refusal.specs.Refusal.{Refusal}
 use Rattle.source.specs.declared.fault.Faulted.{Faulted}
 use Rattle.source.specs.declared.fault.LayerFault.{LayerFault}
 use Rattle.source.specs.declared.fault.LayerFault.the-variants.{Under, QuotaUsed}
 use Rattle.source.specs.declared.fault.TooLong.{TooLong}
 use Rattle.source.specs.declared.token.Place.{Place}
 use Rattle.source.specs.declared.token.Place.the-variants.{One, Two}
-
--- a refusal: its number, and the numbers that are returned with it
-pub record Refusal : Type 0 where
-  pub number : ℕ
-  pub returned : List ℕ
 
 -- a place as numbers
 abbrev pub numbers : Place → List ℕ

@@ -1,28 +1,10 @@
-//! Faults and refusals, and the numbers that they are known by.
+//! What can go wrong with sources, and the numbers that it is known by.
 ghost use mathlib.Core.Path.{_≡_};
-ghost use Prim.Native.Nat.{ℕ};
 ghost use Rattle.source.specs.Refusals.{layer-number, lift, too-long};
 use crate::token::Place;
 use crate::token::PlaceDebug;
 use crate::token::PlacePartialEq;
-use std::convert::Infallible;
-
-/// A refusal or a fault that has a number.
-pub trait Numbered {
-    ghost number: { Self → ℕ };
-
-    /// The number that it is known by.
-    fn number(&self) -> u8
-        ensures { λ r. ⌜ r ≡ number (now (self .entry)) ⌝ };
-}
-
-pub impl Numbered for Infallible as InfallibleNumbered {
-    ghost number = { λ _. 0 };
-
-    fn number(&self) -> u8 {
-        match *self {}
-    }
-}
+use refusal::Numbered;
 
 /// More bytes than a source is opened on.
 #[derive(Clone, Copy, PartialEq, Eq, Debug)]
