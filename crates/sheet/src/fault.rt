@@ -5,8 +5,8 @@ ghost use Rattle.sheet.specs.Faults.{fault-number, reason-of};
 use refusal::Numbered;
 use std::fmt;
 
-/// A fault of a sheet: a byte of no class; a quote that is not closed on its line, before a hash; a word or a number of more
-/// than 32 bytes.
+/// A fault of a sheet: a byte of no class; a quote that is still open at a hash, a line end or the end of the sheet; a
+/// word or a number of more than 32 bytes.
 #[derive(Clone, Copy, PartialEq, Eq, Debug)]
 pub enum ScanFault {
     NoClass,

@@ -30,6 +30,17 @@ skipped c m = record { tokens = kept-by (λ t. not (eqb (t .kind) c)) (m .tokens
 abbrev pub skip-of : {S F : Type 0} → (S → Meaning F) → Skip S → Meaning (LayerFault F)
 skip-of below s = skipped (s .kind) (below (s .source))
 
+-- us is ts without the tokens of kind c: the others stay, in their order
+pub data Without (c : ℕ) : List Token → List Token → Type 0 where
+  no-tokens : Without c [] []
+  drops : (t : Token) (ts us : List Token) → t .kind ≡ c → Without c ts us → Without c (t ∷ ts) us
+  keeps : (t : Token) (ts us : List Token) → (t .kind ≡ c → ⊥) → Without c ts us → Without c (t ∷ ts) (t ∷ us)
+
+-- s is a skip of c over m: the list below without the tokens of kind c, and the last entry below
+pub record Skip-law {F : Type 0} (c : ℕ) (m : Meaning F) (s : Meaning (LayerFault F)) : Type 0 where
+  pub tokens : Without c (m .tokens) (s .tokens)
+  pub last : s .last ≡ lifted (m .last)
+
 -- a quota is used up at the place of the token that was one too many
 abbrev pub used : {F : Type 0} → Place → Last (LayerFault F)
 used p = faults (record { fault = QuotaUsed; place = p })

@@ -1,6 +1,6 @@
 //! Layers: sources that stand over any source, other layers included.
 ghost use mathlib.Core.Path.{_≡_};
-ghost use Rattle.source.specs.Layers.{skip-of, quota-of, skipped, allowed, Quota-law};
+ghost use Rattle.source.specs.Layers.{skip-of, quota-of, skipped, allowed, Skip-law, Quota-law};
 ghost use Rattle.source.specs.Short.{skipped-short, quota-short};
 use crate::fault::Faulted;
 use crate::fault::FaultedLift;
@@ -98,6 +98,12 @@ pub impl<S: Source> Source for Quota<S> as QuotaSource {
         }
     }
 }
+
+/// What a skip over a source means, in words: the list below without the tokens of this kind, the others in their order,
+/// and the last entry below. It does nothing; its contract is the law.
+pub fn skip_law<S: Source>(source: &S, kind: u8)
+    ensures { λ _. ⌜ Skip-law kind (S·Source .meaning (now (source .entry))) (skipped kind (S·Source .meaning (now (source .entry)))) ⌝ }
+{}
 
 /// What a quota over a source means, in words: the list below if it has at most so many tokens; otherwise the first of
 /// them, and then the fault at the place of the next. It does nothing; its contract is the law.

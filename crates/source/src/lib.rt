@@ -39,6 +39,7 @@ pub use layer::QuotaSource;
 pub use layer::Skip;
 pub use layer::SkipSource;
 pub use layer::quota_law;
+pub use layer::skip_law;
 pub use show::PlaceDisplay;
 pub use show::TooLongDisplay;
 pub use source::Source;
