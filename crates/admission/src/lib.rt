@@ -1,4 +1,5 @@
 //! The admission of a table: its text is loaded and checked, and a line says what came of it.
+#![tactic(auto)]
 
 mod admitting;
 mod outcome;

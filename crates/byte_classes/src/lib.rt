@@ -1,4 +1,5 @@
 //! The bytes of a sheet: their classes, and the six words that have a kind of their own.
+#![tactic(auto)]
 
 mod class;
 mod keyword;

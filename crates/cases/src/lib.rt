@@ -1,4 +1,5 @@
 //! Worked examples of the sources and of the check, proved by computation, and tests that run the same code.
+#![tactic(auto)]
 
 mod sources;
 mod tables;

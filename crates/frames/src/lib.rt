@@ -1,4 +1,5 @@
 //! A table file in memory, as load leaves it: its frames, and whether they have the form that they should.
+#![tactic(auto)]
 
 mod form;
 mod frames;

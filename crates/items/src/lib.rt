@@ -1,4 +1,5 @@
 //! Kernel places, closures and successors, over rules as the solver takes them.
+#![tactic(auto)]
 mod closing;
 mod next;
 mod places;

@@ -1,4 +1,5 @@
 //! The listing of a sheet's tokens: what `list_tokens` prints, proved to the last byte.
+#![tactic(auto)]
 
 mod escape;
 mod line;

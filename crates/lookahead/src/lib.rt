@@ -2,6 +2,7 @@
 //!
 //! A word is stored without its end mark. Words stay distinct: a string of fewer tokens than words are cut to had an end
 //! mark, and one of as many had none. So FIRST of a symbol before some words is a product of two sets.
+#![tactic(auto)]
 
 mod choices;
 mod entries;

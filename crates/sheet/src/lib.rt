@@ -1,4 +1,5 @@
 //! The scanner: cuts a sheet into lexemes that borrow it, each with its line and column, and is a token source.
+#![tactic(auto)]
 
 mod cut;
 mod fault;

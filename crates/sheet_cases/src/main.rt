@@ -1,6 +1,7 @@
 //! Lists every sheet of a batch on standard input, for comparison with listings from elsewhere.
 //!
 //! A sheet comes as LENGTH:BYTES, with a comma and a line end behind it.
+#![tactic(auto)]
 use listing::Listing;
 use std::io::Read;
 

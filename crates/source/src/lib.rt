@@ -2,6 +2,7 @@
 //!
 //! A source means a list of tokens with their places and a last entry, the end or a fault. The trait `Source` has this
 //! meaning as a ghost member; every source and every layer is proved to give its meaning entry by entry.
+#![tactic(auto)]
 
 mod draining;
 mod fault;

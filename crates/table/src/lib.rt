@@ -1,4 +1,5 @@
 //! The check of a table.
+#![tactic(auto)]
 
 mod defined;
 mod draft;

@@ -2,6 +2,7 @@
 //!
 //! A word has at most K tokens, each from 1 to 20, with K one or two. Union is the join, and concatenation, cut to K
 //! tokens, the product; so the least solution of a grammar's equations is FIRST of each nonterminal.
+#![tactic(auto)]
 
 mod first;
 mod set;
