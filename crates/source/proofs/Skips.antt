@@ -1,5 +1,5 @@
 -- A skip in the words of its meaning: the filter drops a token just where its kind is the one.
-use Rattle.std.proofs.Common.{◌≡◌, ℕ, Bool, true, false, cond, not, eqb, List, [], ◌∷◌, filter, refl}
+use Rattle.std.proofs.Common.{ℕ, not, eqb, List, [], ◌∷◌, filter, refl}
 use Rattle.std.proofs.lemmas.Bool.{cond_both, eqb-true, eqb-false, not-true, not-false}
 use Rattle.source.specs.declared.token.Token.{Token}
 use Rattle.source.specs.Layers.{Without, SkipLaw, no_tokens, drops, keeps, skipped}

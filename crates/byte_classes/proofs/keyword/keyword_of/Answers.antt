@@ -15,8 +15,8 @@ returns-in-len4 c = c.keyword-of-four.ensures ∙ ap keyword_of (sym (letters c.
 pub returns-in-len5 : goal.returns-in-len5
 returns-in-len5 c = c.keyword-of-five.ensures ∙ ap keyword_of (sym (letters c.args.letters.now 5 (omega (arith, ltb-true, ltb-false))))
 
-pub returns-in-default : goal.returns-in-default
-returns-in-default c = short c.args.letters.now (omega (arith, ltb-true, ltb-false))
+pub returns-in_default : goal.returns-in_default
+returns-in_default c = short c.args.letters.now (omega (arith, ltb-true, ltb-false))
 
-pub returns-in-default·2 : goal.returns-in-default·2
-returns-in-default·2 c = long c.args.letters.now (omega (arith, ltb-true, ltb-false))
+pub returns-in_default-2 : goal.returns-in_default-2
+returns-in_default-2 c = long c.args.letters.now (omega (arith, ltb-true, ltb-false))
