@@ -4,16 +4,16 @@ use Rattle.byte_classes.proofs.Letters.{letters, short, long}
 use Rattle.byte_classes.proofs.keyword.keyword_of.Goals as goal
 
 pub returns-in-len2 : goal.returns-in-len2
-returns-in-len2 c = c.keyword-of-two.ensures ∙ ap keyword_of (sym (letters c.args.letters.now 2 (omega (arith, ltb-true, ltb-false))))
+returns-in-len2 c = c.keyword_of_two.ensures ∙ ap keyword_of (sym (letters c.args.letters.now 2 (omega (arith, ltb-true, ltb-false))))
 
 pub returns-in-len3 : goal.returns-in-len3
-returns-in-len3 c = c.keyword-of-three.ensures ∙ ap keyword_of (sym (letters c.args.letters.now 3 (omega (arith, ltb-true, ltb-false))))
+returns-in-len3 c = c.keyword_of_three.ensures ∙ ap keyword_of (sym (letters c.args.letters.now 3 (omega (arith, ltb-true, ltb-false))))
 
 pub returns-in-len4 : goal.returns-in-len4
-returns-in-len4 c = c.keyword-of-four.ensures ∙ ap keyword_of (sym (letters c.args.letters.now 4 (omega (arith, ltb-true, ltb-false))))
+returns-in-len4 c = c.keyword_of_four.ensures ∙ ap keyword_of (sym (letters c.args.letters.now 4 (omega (arith, ltb-true, ltb-false))))
 
 pub returns-in-len5 : goal.returns-in-len5
-returns-in-len5 c = c.keyword-of-five.ensures ∙ ap keyword_of (sym (letters c.args.letters.now 5 (omega (arith, ltb-true, ltb-false))))
+returns-in-len5 c = c.keyword_of_five.ensures ∙ ap keyword_of (sym (letters c.args.letters.now 5 (omega (arith, ltb-true, ltb-false))))
 
 pub returns-in_default : goal.returns-in_default
 returns-in_default c = short c.args.letters.now (omega (arith, ltb-true, ltb-false))
