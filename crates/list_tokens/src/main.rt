@@ -1,5 +1,6 @@
 //! Lists the tokens of the sheet on standard input, each with its place, or says what is wrong with it.
 #![tactic(auto)]
+
 ghost use Rattle.std.specs.Prelude.{◌≡◌, IfOk, string_bytes};
 ghost use Rattle.listing.specs.Listings.{sheet_listing};
 

@@ -1,5 +1,6 @@
 //! Refusals and faults go by numbers, and each is returned with some numbers.
 #![tactic(auto)]
+
 ghost use Rattle.std.specs.Prelude.{◌≡◌, ℕ};
 
 use std::convert::Infallible;

@@ -2,6 +2,7 @@
 //!
 //! A sheet comes as LENGTH:BYTES, with a comma and a line end behind it.
 #![tactic(auto)]
+
 use listing::Listing;
 use std::io::Read;
 

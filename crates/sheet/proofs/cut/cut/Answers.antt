@@ -5,4 +5,4 @@ use Rattle.sheet.proofs.Fronts.{front_by_class}
 use Rattle.sheet.proofs.cut.cut.Goals as goal
 
 pub unreachable-requires : goal.unreachable-requires
-unreachable-requires c = c.requires (sym (front_by_class c.args.text.now Blank (grind (arith, nat_tests, c.if-is-empty.ensures)) c.in-Blank.ensures))
+unreachable-requires c = c.requires (sym (front_by_class c.args.text.now Blank (grind (arith, nat_tests, c.if-is_empty.ensures)) c.in-Blank.ensures))

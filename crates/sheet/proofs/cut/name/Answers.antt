@@ -8,13 +8,13 @@ use Rattle.sheet.proofs.cut.name.Goals.{else-n-inner-via-then-n-inner+else-inner
 pub returns-then-inner-n-eq34 : goal.returns-then-inner-n-eq34
 returns-then-inner-n-eq34 c =
     let s = c.args.text.now in
-    let n = c.span-len-n.result in
+    let n = c.span_len-n.result in
     let inside : n + 1 < length s = omega (arith, simp (take_rest s 1, length-drop) at c.if-n-inner.true) in
-    token_cut _ s (n + 2) _ (sym (closes _ _ c.if-n-inner.true c.if-inner-n-eq34.true) ∙ front_of_name s n c.span-len-n.ensures.longest) refl (omega arith) (omega arith)
+    token_cut _ s (n + 2) _ (sym (closes _ _ c.if-n-inner.true c.if-inner-n-eq34.true) ∙ front_of_name s n c.span_len-n.ensures.longest) refl (omega arith) (omega arith)
 
 pub returns-else-n-inner : goal.returns-else-n-inner
 returns-else-n-inner c =
-    let told = c.span-len-n.ensures in
+    let told = c.span_len-n.ensures in
     record {
       shaped =
           elim c.else-n-inner.branch [

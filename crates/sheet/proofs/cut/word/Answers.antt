@@ -23,10 +23,10 @@ word_cut x s n o spells is long e h short nonempty letter =
 
 pub returns-in-Some : goal.returns-in-Some
 returns-in-Some c =
-    let told = c.span-len-n.ensures in
-    word_cut _ c.args.text.now c.span-len-n.result _ c.in-Some.ensures refl told.longest refl told.within (omega arith) c.requires.0 c.requires.1
+    let told = c.span_len-n.ensures in
+    word_cut _ c.args.text.now c.span_len-n.result _ c.in-Some.ensures refl told.longest refl told.within (omega arith) c.requires.0 c.requires.1
 
 pub returns-in-None : goal.returns-in-None
 returns-in-None c =
-    let told = c.span-len-n.ensures in
-    word_cut _ c.args.text.now c.span-len-n.result _ c.in-None.ensures refl told.longest refl told.within (omega arith) c.requires.0 c.requires.1
+    let told = c.span_len-n.ensures in
+    word_cut _ c.args.text.now c.span_len-n.result _ c.in-None.ensures refl told.longest refl told.within (omega arith) c.requires.0 c.requires.1
