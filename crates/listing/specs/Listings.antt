@@ -1,7 +1,6 @@
 -- The listing of a sheet: a line for each token, and one for the last entry.
-use Rattle.std.specs.Prelude.{◌≡◌, ℕ, Bool, true, false, cond, List, [], ◌∷◌, ◌++◌, length, codes, nat_le}
+use Rattle.std.specs.Prelude.{◌≡◌, ℕ, Bool, true, false, cond, List, [], ◌∷◌, ◌++◌, length, nat_le}
 use Rattle.source.specs.Meaning.{Last, ends, faults}
-use Rattle.source.specs.Shown.{place_text}
 use Rattle.sheet.specs.Scan.{Spot, Scanned, before, only, scan}
 use Rattle.sheet.specs.Scanners.{spot_of}
 use Rattle.sheet.specs.declared.fault.ScanFault.{ScanFault}

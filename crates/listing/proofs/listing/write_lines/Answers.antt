@@ -4,14 +4,14 @@ use Rattle.listing.specs.Listings.{listing}
 use Rattle.listing.proofs.Listings.{listed_more, listed_all}
 use Rattle.listing.proofs.listing.write_lines.Goals as goal
 
-pub returns-then-is-last : goal.returns-then-is-last
-returns-then-is-last g c = λ plain ok.
+pub returns-then-is_last : goal.returns-then-is_last
+returns-then-is_last g c = λ plain ok.
     let before = c.lines.invariant plain in
-    let wrote = c.in-ok-writeln.ensures.shows before.put.plain refl in
-    listed_all g.W.Write.write_str_gives c.args.f.now (listing (scanned c.args.scanner.now)) c.lines.f c.writeln.new.self (scanned c.lines.scanner) (scanned c.next-line-line.new.scanner) c.next-line-line.result before c.next-line-line.ensures wrote (sym c.is-last.ensures ∙ c.if-is-last.true)
+    let wrote = c.in_ok-writeln.ensures.writes before.put.plain refl in
+    listed_all g.W.Write.write_str_gives c.args.f.now (listing (scanned c.args.scanner.now)) c.lines.f c.writeln.new.self (scanned c.lines.scanner) (scanned c.next_line-line.new.scanner) c.next_line-line.result before c.next_line-line.ensures wrote (sym c.is_last.ensures ∙ c.if-is_last.true)
 
 pub lines-preserved : goal.lines-preserved
 lines-preserved g c = λ plain.
     let before = c.lines.invariant plain in
-    let wrote = c.in-ok-writeln.ensures.shows before.put.plain refl in
-    listed_more g.W.Write.write_str_gives c.args.f.now (listing (scanned c.args.scanner.now)) c.lines.f c.writeln.new.self (scanned c.lines.scanner) (scanned c.next-line-line.new.scanner) c.next-line-line.result before c.next-line-line.ensures wrote (sym c.is-last.ensures ∙ c.if-is-last.false)
+    let wrote = c.in_ok-writeln.ensures.writes before.put.plain refl in
+    listed_more g.W.Write.write_str_gives c.args.f.now (listing (scanned c.args.scanner.now)) c.lines.f c.writeln.new.self (scanned c.lines.scanner) (scanned c.next_line-line.new.scanner) c.next_line-line.result before c.next_line-line.ensures wrote (sym c.is_last.ensures ∙ c.if-is_last.false)

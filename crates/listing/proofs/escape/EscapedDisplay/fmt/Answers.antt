@@ -15,9 +15,9 @@ loop-byte-preserved g c = λ plain.
     let i = c.loop-byte.byte-index in
     let start = c.args.f.now in
     let before = c.loop-byte.invariant plain in
-    let more = c.in-ok-write-byte.ensures before.plain refl in
-    has_written_of_eq took start _ _ c.write-byte.new.f (escaped_more bytes i (omega arith))
-    (has_written_append took start (escaped_text (take i bytes)) c.loop-byte.f (escaped (get_or bytes i 0)) c.write-byte.new.f before more)
+    let more = c.in_ok-write_byte.ensures before.plain refl in
+    has_written_of_eq took start _ _ c.write_byte.new.f (escaped_more bytes i (omega arith))
+    (has_written_append took start (escaped_text (take i bytes)) c.loop-byte.f (escaped (get_or bytes i 0)) c.write_byte.new.f before more)
 
 pub returns-clause-writes : goal.returns-clause-writes
 returns-clause-writes g c = λ plain ok.
