@@ -1,8 +1,8 @@
 -- A table whose frames are good up to the one behind the last that it should have is good throughout.
-use Rattle.std.proofs.Common.{◌≡◌, ℕ, ◌+◌, ◌<◌, ◌≤◌, Bool, true, false, cond, ◌&&◌, ltb, leb, ◌⊎◌, sym, ap, ◌∙◌, inl, inr, arith}
+use Rattle.std.proofs.Common.{◌≡◌, ℕ, ◌+◌, ◌<◌, ◌≤◌, leb, ◌⊎◌, sym, ◌∙◌, inl, inr, arith}
 use Rattle.std.proofs.lemmas.Bool.{cases_lt, cond-false, le-ltb, lt-leb, leb-false}
 use Rattle.frames.specs.Raw.{Raw}
-use Rattle.frames.specs.Form.{needed, good_at, frame_good, BadFrame}
+use Rattle.frames.specs.Form.{needed, frame_good, BadFrame}
 
 beyond : (R : Raw) (i : ℕ) → needed R ≤ i → frame_good R i ≡ leb R.frames i
 beyond R i h = cond-false _ _ _ (le-ltb i (needed R) h)

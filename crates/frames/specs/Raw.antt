@@ -1,5 +1,5 @@
 -- A table file in memory, as load leaves it, and what its frames hold.
-use Rattle.std.specs.Prelude.{ℕ, ◌+◌, ◌-◌, ◌*◌, cond, List, [], ◌∷◌, drop, ◌==◌, nat_lt, slice_index, slice_range}
+use Rattle.std.specs.Prelude.{ℕ, ◌+◌, ◌*◌, cond, List, [], ◌∷◌, drop, ◌==◌, nat_lt, slice_index, slice_range}
 use Rattle.frames.specs.declared.header.Header.{Header}
 use Rattle.frames.specs.declared.header.Section.{Section}
 use Rattle.frames.specs.declared.header.Section.TheVariants.{Kernel, Words, Successors, Choices}

@@ -123,7 +123,7 @@ module _ (g : Grammar) (s : Sound g) where
     in_order c q p h = found_state g s T c.defined q h p (c.found q h)
 
     pub collection→map : IsCollection g T → StateMap g T
-    collection→map c = states→map g s T c.some-state c.defined (in_order c)
+    collection→map c = states→map g s T c.some_state c.defined (in_order c)
 
     canonical : Accepted g T → Canonical g T
     canonical a =

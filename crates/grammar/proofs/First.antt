@@ -61,12 +61,12 @@ module _ (g : Grammar) where
             ψ₁ = s.ψ₁;
             ψ₂ = s.ψ₂;
             joins = s.joins;
-            first = (α'', record { rule = h.rule; is_rule = h.is_rule; before = h.before; after = w.more; from = w.first-is; to = refl }, s.first);
+            first = (α'', record { rule = h.rule; is_rule = h.is_rule; before = h.before; after = w.more; from = w.first_is; to = refl }, s.first);
             second = s.second;
           }
       at_place (inr w) f k =
           let β'' : List ℕ = w.more ++ (h.rule.right ++ h.after) in
-          let s = k β'' (h.to ∙ ap (λ (x : List ℕ). x ++ (h.rule.right ++ h.after)) w.before-is ∙ simp append_assoc) in
+          let s = k β'' (h.to ∙ ap (λ (x : List ℕ). x ++ (h.rule.right ++ h.after)) w.before_is ∙ simp append_assoc) in
           record {
             rs₁ = s.rs₁;
             rs₂ = r ∷ s.rs₂;

@@ -252,13 +252,13 @@ chosen_fits : (q A : ℕ) (y : List ℕ) (r : ℕ) → Chosen q A y r → Fits o
 chosen_fits q A y r c =
     record {
       nonterminal = (omega (arith, c.left_is), omega (arith, c.left_is));
-      has_next = (1, ap₂ sample_next c.state-is c.left_is);
+      has_next = (1, ap₂ sample_next c.state_is c.left_is);
       rule = token_rule;
-      is_rule = ap (rule_at (token_rule ∷ [])) c.rule-is;
+      is_rule = ap (rule_at (token_rule ∷ [])) c.rule_is;
       left_is = sym c.left_is;
       state = 2;
-      after_is = (q, refl, ap (λ (z : ℕ). sample_next z 1) c.state-is);
-      word = Memᴰ.head c.word-is;
+      after_is = (q, refl, ap (λ (z : ℕ). sample_next z 1) c.state_is);
+      word = Memᴰ.head c.word_is;
     }
 
 choice_chosen : (q A : ℕ) (y : List ℕ) (r : ℕ) → sample_choice q A y ≡ some r → Chosen q A y r
@@ -274,7 +274,7 @@ choice_chosen zero A (a ∷ []) r e = by (eqb A 32) (eqb a 1) refl refl e
 
 chosen_choice : (q A : ℕ) (y : List ℕ) (r : ℕ) → Chosen q A y r → sample_choice q A y ≡ some r
 chosen_choice q A y r c =
-    rw (c.state-is, c.left_is, c.word-is, c.rule-is) refl
+    rw (c.state_is, c.left_is, c.word_is, c.rule_is) refl
 
 pub sample_is_accepted : SampleIsAccepted
 sample_is_accepted = (

@@ -18,11 +18,11 @@ came {φ = φ} s x B y e = at_place (where_is x B y s.before (ω ++ s.after) (sy
     ω = s.rule.right
 
     after : (m : List ℕ) → InFirst m B y ω s.after ⊎ InSecond m B y ω s.after → Came s B y
-    after m (inl w) = brought m w.more w.first-is w.after_is
+    after m (inl w) = brought m w.more w.first_is w.after_is
     after m (inr w) =
         let x : List ℕ = s.before ++ s.rule.left ∷ w.more in
         behind x (s.from ∙ ap (λ (z : List ℕ). s.before ++ s.rule.left ∷ z) w.second_is ∙ simp append_assoc)
 
     at_place : InFirst x B y s.before (ω ++ s.after) ⊎ InSecond x B y s.before (ω ++ s.after) → Came s B y
-    at_place (inl w) = before x w.more w.first-is
+    at_place (inl w) = before x w.more w.first_is
     at_place (inr w) = after w.more (where_is w.more B y ω s.after (sym w.second_is))

@@ -1,6 +1,7 @@
 //! Context-free grammars and canonical LL(k) tables: the mathematics that a table is checked by. Definitions and theorems stand in specs/, the
 //! theorems on one page, Theorems.antt. The contract of a function here asks for the proof of those that it names; the functions do nothing else.
 #![tactic(auto)]
+
 ghost use Rattle.grammar.specs.Theorems.{SentencesParse, FirstOfProducts, FirstInTurn, FirstWithWords};
 ghost use Rattle.grammar.specs.Theorems.{LeastIsProductive, LeastIsFirst, ReachableIsFound};
 ghost use Rattle.grammar.specs.Theorems.{SuffixesEnd, SuffixesShrink, SuffixesReplace, TopsAreLeftmost, EquivalentsAgree, EquivalentsFollow};

@@ -4,7 +4,7 @@ use Rattle.grammar.specs.Grammar.{Grammar, IsNonterminal}
 use Rattle.grammar.specs.Equations.{Kind, product_of, join_of, Solves, FromBottom}
 use Rattle.solver.specs.Solution.{rule_of, rules_of, valuation}
 use Rattle.solver.specs.declared.rule.Rule.{Rule}
-use Rattle.std.specs.List.{AllByRecursion as All}
+use Rattle.std.specs.List.{AllByRecursion}
 
 -- x lies below y.
 abbrev pub Below : {V : Type 0} → Kind V → V → V → Type 0
@@ -32,4 +32,4 @@ RisingTo o ρs vs = (g : Grammar) → g.rules ≡ rules_of ρs → g.n ≡ lengt
 
 -- No rule changes anything.
 abbrev pub Settled : {V : Type 0} → Kind V → List Rule → List V → Type 0
-Settled o ρs vs = All (λ ρ. with_rule o ρ vs ≡ vs) ρs
+Settled o ρs vs = AllByRecursion (λ ρ. with_rule o ρ vs ≡ vs) ρs

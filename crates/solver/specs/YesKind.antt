@@ -1,5 +1,5 @@
 -- Yes and no as a kind of value, and what they tell.
-use Rattle.std.specs.Prelude.{◌≡◌, ℕ, ◌-◌, Bool, cond, List, length, Decides}
+use Rattle.std.specs.Prelude.{◌≡◌, ℕ, Bool, cond, List, length, Decides}
 use Rattle.grammar.specs.Grammar.{Grammar, IsNonterminal, WellFormed}
 use Rattle.grammar.specs.Sound.{Productive}
 use Rattle.grammar.specs.Equations.{Kind}

@@ -15,7 +15,7 @@ const LONGEST: usize = 6;
 
 // The value of a token or a nonterminal. A nonterminal beyond the list is at bottom.
 fn symbol_value<V: Value>(symbol: u8, values: &[V]) -> V
-    ensures { result ≡ value kind (valuation kind values.now) symbol }
+    ensures { result ≡ value V.kind (valuation V.kind values.now) symbol }
 {
     if symbol < START {
         return V::of_token(symbol);
@@ -30,7 +30,7 @@ fn symbol_value<V: Value>(symbol: u8, values: &[V]) -> V
 
 // The product of the values on the right of a rule.
 fn product<V: Value>(rule: &Rule, values: &[V]) -> V
-    ensures { result ≡ product_of kind (valuation kind values.now) (rule_of rule.now).right }
+    ensures { result ≡ product_of V.kind (valuation V.kind values.now) (rule_of rule.now).right }
 {
     let len = (rule.len as usize).min(LONGEST);
     let mut found = V::unit();
@@ -43,7 +43,7 @@ fn product<V: Value>(rule: &Rule, values: &[V]) -> V
 // Joins a value to one of the list, and says whether that changed it.
 fn raise<V: Value>(values: &mut [V], at: usize, by: V) -> bool
     requires { at < length values.old }
-    ensures writes { values.new ≡ slice_set values.old at (kind.join (slice_index_or values.old at kind.bottom) by) }
+    ensures writes { values.new ≡ slice_set values.old at (V.kind.join (slice_index_or values.old at V.kind.bottom) by) }
     ensures says { MatchBool result (values.new ≢ values.old) (values.new ≡ values.old) }
 {
     let old = values[at];
@@ -57,7 +57,7 @@ fn raise<V: Value>(values: &mut [V], at: usize, by: V) -> bool
 
 // Applies one rule, and says whether a value changed. A rule of no nonterminal of the list changes nothing.
 fn apply<V: Value>(rule: &Rule, values: &mut [V]) -> bool
-    ensures writes { values.new ≡ with_rule kind rule.now values.old }
+    ensures writes { values.new ≡ with_rule V.kind rule.now values.old }
     ensures says { MatchBool result (values.new ≢ values.old) (values.new ≡ values.old) }
 {
     if rule.left < START {
@@ -73,9 +73,9 @@ fn apply<V: Value>(rule: &Rule, values: &mut [V]) -> bool
 
 // Applies each rule once, and says whether a value changed. If one did, the values are higher in sum.
 fn round<V: Value>(rules: &[Rule], values: &mut [V]) -> bool
-    requires { RisingTo kind rules.now values.old }
-    ensures rising { RisingTo kind rules.now values.new }
-    ensures says { MatchBool result (sum_by height values.old < sum_by height values.new) (Settled kind rules.now values.new) }
+    requires { RisingTo V.kind rules.now values.old }
+    ensures rising { RisingTo V.kind rules.now values.new }
+    ensures says { MatchBool result (sum_by V.height values.old < sum_by V.height values.new) (Settled V.kind rules.now values.new) }
 {
     let mut changed = false;
     for rule in rules {
@@ -86,7 +86,7 @@ fn round<V: Value>(rules: &[Rule], values: &mut [V]) -> bool
 }
 
 fn clear<V: Value>(values: &mut [V])
-    ensures { AllBottom kind values.new }
+    ensures { AllBottom V.kind values.new }
 {
     for value in values.iter_mut() {
         *value = V::bottom();
@@ -96,7 +96,7 @@ fn clear<V: Value>(values: &mut [V])
 /// Solves the equations of the rules: leaves the least solution in the values, which are those of 32, 33 and so on. What
 /// they were before does not count. It ends since each round but the last makes some value higher.
 pub fn solve<V: Value>(rules: &[Rule], values: &mut [V])
-    ensures least { LeastOf kind rules.now values.new }
+    ensures least { LeastOf V.kind rules.now values.new }
     ensures as_many { length values.new ≡ length values.old }
 {
     clear(values);

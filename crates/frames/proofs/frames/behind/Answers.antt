@@ -1,4 +1,4 @@
-use Rattle.std.proofs.Common.{◌⊎◌, inl, inr}
+use Rattle.std.proofs.Common.{inl, inr}
 use Rattle.frames.proofs.Parts.{part_all}
 use Rattle.frames.proofs.frames.behind.Goals as goal
 use Rattle.frames.proofs.frames.behind.Goals.{then-from-bytes, else-from-bytes}

@@ -1,4 +1,4 @@
-use Rattle.std.proofs.Common.{◌≡◌, ◌<◌, ◌≤◌, ◌⊎◌, length, inl, inr}
+use Rattle.std.proofs.Common.{inl, inr}
 use Rattle.frames.proofs.Parts.{part_within}
 use Rattle.frames.proofs.frames.cut.Goals as goal
 use Rattle.frames.proofs.frames.cut.Goals.{then-to-bytes, else-to-bytes, then-from-end, else-from-end}

@@ -9,7 +9,7 @@ use Rattle.lookahead.proofs.choices.chosen.Goals as goal
 pub entries-preserved : goal.entries-preserved
 entries-preserved g c = (
   omega (arith, c.entries-test.true),
-  choices_more c.entries.found c.args.entries.now c.entries.at c.args.rule c.with-choice-found.result c.with-choice-found.ensures c.entries-test.true ∙ c.entries.invariant.1,
+  choices_more c.entries.found c.args.entries.now c.entries.at c.args.rule c.with_choice-found.result c.with_choice-found.ensures c.entries-test.true ∙ c.entries.invariant.1,
 )
 
 pub returns : goal.returns

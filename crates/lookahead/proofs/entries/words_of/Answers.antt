@@ -9,7 +9,7 @@ use Rattle.lookahead.proofs.entries.words_of.Goals as goal
 pub entries-preserved : goal.entries-preserved
 entries-preserved g c = (
   omega (arith, c.entries-test.true),
-  entries_more c.entries.found c.args.entries.now c.entries.at c.with-entry-found.result c.with-entry-found.ensures c.entries-test.true ∙ c.entries.invariant.1,
+  entries_more c.entries.found c.args.entries.now c.entries.at c.with_entry-found.result c.with_entry-found.ensures c.entries-test.true ∙ c.entries.invariant.1,
 )
 
 pub returns : goal.returns

@@ -5,7 +5,7 @@ use Rattle.solver.proofs.rounds.product.Given as goal
 
 abbrev pub invariant-loop-i : goal.invariant-loop-i
 invariant-loop-i g l =
-    let o = g.V-as-Value.kind in
+    let o = g.V.Value.kind in
     let S = valuation o l.values in
     let α = (rule_of l.rule).right in
     o.product l.found (product_of o S (drop l.i α)) ≡ product_of o S α

@@ -4,7 +4,7 @@ use Rattle.solver.proofs.rounds.raise.Goals as goal
 
 pub returns-then-same : goal.returns-then-same
 returns-then-same g c =
-    let o = g.V-as-Value.kind in
+    let o = g.V.Value.kind in
     let vs = c.args.values.now in
     let at = c.args.at in
     let read : c.index-values-at.result ≡ get_or vs at o.bottom = get_or_read vs at _ c.requires c.index-values-at.is o.bottom in

@@ -7,8 +7,8 @@ use Rattle.solver.proofs.rounds.round.Goals as goal
 
 pub loop-rule-preserved : goal.loop-rule-preserved
 loop-rule-preserved g c =
-    let o = g.V-as-Value.kind in
-    let laws = g.V-as-Value.laws in
+    let o = g.V.Value.kind in
+    let laws = g.V.Value.laws in
     let ρs = c.args.rules.now in
     let vs = c.loop-rule.values in
     let j = c.loop-rule.rule-index in

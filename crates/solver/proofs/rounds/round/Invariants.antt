@@ -4,7 +4,7 @@ use Rattle.solver.proofs.rounds.round.Given as goal
 
 abbrev pub invariant-loop-rule : goal.invariant-loop-rule
 invariant-loop-rule g l =
-    let o = g.V-as-Value.kind in
-    let height = g.V-as-Value.height in
+    let o = g.V.Value.kind in
+    let height = g.V.Value.height in
     RisingTo o l.rules l.values × (sum_by height l.initial.values ≤ sum_by height l.values)
     × MatchBool l.changed (sum_by height l.initial.values < sum_by height l.values) (Settled o (take l.rule-index l.rules) l.values)

@@ -3,8 +3,8 @@ use Rattle.solver.specs.Rounds.{RisingTo}
 use Rattle.solver.proofs.rounds.solve.Given as goal
 
 abbrev pub invariant-rounds : goal.invariant-rounds
-invariant-rounds g l = RisingTo g.V-as-Value.kind l.rules l.values
+invariant-rounds g l = RisingTo g.V.Value.kind l.rules l.values
 
 -- how much higher the values can rise
 abbrev pub decreases-rounds : goal.decreases-rounds
-decreases-rounds g l = length l.values * g.V-as-Value.chain - sum_by g.V-as-Value.height l.values
+decreases-rounds g l = length l.values * g.V.Value.chain - sum_by g.V.Value.height l.values

@@ -10,4 +10,4 @@ pub returns : goal.returns
 returns g c γ rules size lookahead wf few A n w =
     let o = word_kind g.row.K in
     let cut_to = subst (λ m. CutTo o m γ) (sym lookahead) (words_cut g.row.K γ few) in
-    least_is_first _ o γ wf cut_to (valuation o c.args.-sets.now) (c.requires γ rules size) A n w
+    least_is_first _ o γ wf cut_to (valuation o c.args._sets.now) (c.requires γ rules size) A n w

@@ -7,6 +7,6 @@ use Rattle.frames.proofs.frames.Frames.entries_good.Goals as goal
 
 pub returns-in-Choices : goal.returns-in-Choices
 returns-in-Choices c =
-    c.choices-good.ensures
+    c.choices_good.ensures
     ∙ ap (λ (h : Header). choices_good h [] c.args.entries.now) c.requires
     ∙ ap (λ (s : Section). entries_good (raw c.args.self) s c.args.entries.now) (sym c.in-Choices.is)

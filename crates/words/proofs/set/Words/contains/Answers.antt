@@ -13,4 +13,4 @@ returns-then-first-ge-WIDTH g c =
     sym (member_word_of s a b ∙ none)
 
 pub returns : goal.returns
-returns g c = c.has-bit.ensures ∙ sym (member_word_of c.args.self.now c.args.first c.args.second)
+returns g c = c.has_bit.ensures ∙ sym (member_word_of c.args.self.now c.args.first c.args.second)

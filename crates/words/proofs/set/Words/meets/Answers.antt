@@ -3,9 +3,9 @@ use Rattle.std.proofs.lemmas.Bool.{false≢true}
 use Rattle.words.proofs.Meetings.{meet_here, meet_none}
 use Rattle.words.proofs.set.Words.meets.Goals as goal
 
-pub returns-then-share-a-bit : goal.returns-then-share-a-bit
-returns-then-share-a-bit g c = (
-  λ h. meet_here c.args.self c.args.other c.loop-a.a (omega arith) (sym c.share-a-bit.ensures ∙ c.if-share-a-bit.true),
+pub returns-then-share_a_bit : goal.returns-then-share_a_bit
+returns-then-share_a_bit g c = (
+  λ h. meet_here c.args.self c.args.other c.loop-a.a (omega arith) (sym c.share_a_bit.ensures ∙ c.if-share_a_bit.true),
   λ m. refl,
 )
 

@@ -7,11 +7,11 @@ use Rattle.words.proofs.set.value.heads_of.Goals as goal
 pub loop-a-init : goal.loop-a-init
 loop-a-init c = (omega arith, sym (ap heads (drop_all 21 c.args.rows (omega arith))))
 
-pub overflow-mul-found : goal.overflow-mul-found
-overflow-mul-found c = let h = heads_drop_lt c.args.rows (omega arith) c.loop-a.a in omega arith
+pub overflow_mul-found : goal.overflow_mul-found
+overflow_mul-found c = let h = heads_drop_lt c.args.rows (omega arith) c.loop-a.a in omega arith
 
-pub overflow-add-found : goal.overflow-add-found
-overflow-add-found c =
+pub overflow_add-found : goal.overflow_add-found
+overflow_add-found c =
     let h = heads_drop_lt c.args.rows (omega arith) c.loop-a.a in
     let one = head_one (get_or c.args.rows (c.loop-a.a - 1) 0) in
     omega (arith, h, one, c.flag.ensures)

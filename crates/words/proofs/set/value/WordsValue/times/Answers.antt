@@ -8,21 +8,21 @@ use Rattle.words.proofs.set.value.WordsValue.times.Goals as goal
 pub returns-then-heads-eq0 : goal.returns-then-heads-eq0
 returns-then-heads-eq0 g c =
     let none : some_word c.args.other ≡ false =
-    some_word_is c.args.other ∙ ap not (eq-eqb _ 0 (sym c.heads-of-heads.ensures ∙ c.if-heads-eq0.true)) in
+    some_word_is c.args.other ∙ ap not (eq-eqb _ 0 (sym c.heads_of-heads.ensures ∙ c.if-heads-eq0.true)) in
     c.bottom.ensures ∙ sym (times_none c.args.self c.args.other none)
 
-pub invariant-of-result : goal.invariant-of-result
-invariant-of-result g c =
-    let after = c.following-after.ensures ∙ ap (cond (ltb g.row.K 2) 1) c.heads-of-heads.ensures in
-    let rows = rows_all c.args.self c.args.other c.loop-a.rows _ _ _ c.loop-a.invariant.0 (empty_is c.args.self) after c.first-row.ensures
+pub invariant_of-result : goal.invariant_of-result
+invariant_of-result g c =
+    let after = c.following-after.ensures ∙ ap (cond (ltb g.row.K 2) 1) c.heads_of-heads.ensures in
+    let rows = rows_all c.args.self c.args.other c.loop-a.rows _ _ _ c.loop-a.invariant.0 (empty_is c.args.self) after c.first_row.ensures
     (λ a h. c.loop-a.invariant.1 a (omega (arith, c.loop-a-test.false))) in
-    (rows.long, (times_fits c.args.self c.args.other _ rows, tt))
+    record { long = rows.long; fits = times_fits c.args.self c.args.other _ rows }
 
 pub returns : goal.returns
 returns g c =
-    let after = c.following-after.ensures ∙ ap (cond (ltb g.row.K 2) 1) c.heads-of-heads.ensures in
-    let rows = rows_all c.args.self c.args.other c.loop-a.rows _ _ _ c.loop-a.invariant.0 (empty_is c.args.self) after c.first-row.ensures
+    let after = c.following-after.ensures ∙ ap (cond (ltb g.row.K 2) 1) c.heads_of-heads.ensures in
+    let rows = rows_all c.args.self c.args.other c.loop-a.rows _ _ _ c.loop-a.invariant.0 (empty_is c.args.self) after c.first_row.ensures
     (λ a h. c.loop-a.invariant.1 a (omega (arith, c.loop-a-test.false))) in
     let some : some_word c.args.other ≡ true =
-    some_word_is c.args.other ∙ ap not (ne_eqb _ 0 (λ z. c.if-heads-eq0.false (c.heads-of-heads.ensures ∙ z))) in
+    some_word_is c.args.other ∙ ap not (ne_eqb _ 0 (λ z. c.if-heads-eq0.false (c.heads_of-heads.ensures ∙ z))) in
     times_is c.args.self c.args.other _ some rows
