@@ -4,15 +4,15 @@ use Rattle.load.specs.Digits.{all_digits}
 use Rattle.load.proofs.Values.{digits_more}
 use Rattle.load.proofs.digit.all_digits.Goals as goal
 
-pub returns-then-not-is-digit : goal.returns-then-not-is-digit
-returns-then-not-is-digit c =
-    ap (λ t. t && all_digits (drop (c.loop-byte.byte-index + 1) c.args.line.now)) c.if-not-is-digit.ensures
+pub returns-then-not-is_digit : goal.returns-then-not-is_digit
+returns-then-not-is_digit c =
+    ap (λ t. t && all_digits (drop (c.loop-byte.byte-index + 1) c.args.line.now)) c.if-not-is_digit.ensures
     ∙ sym (digits_more c.args.line.now c.loop-byte.byte-index c.loop-byte-test.true)
     ∙ c.loop-byte.invariant
 
 pub loop-byte-preserved : goal.loop-byte-preserved
 loop-byte-preserved c =
-    ap (λ t. t && all_digits (drop (c.loop-byte.byte-index + 1) c.args.line.now)) c.if-not-is-digit.ensures
+    ap (λ t. t && all_digits (drop (c.loop-byte.byte-index + 1) c.args.line.now)) c.if-not-is_digit.ensures
     ∙ sym (digits_more c.args.line.now c.loop-byte.byte-index c.loop-byte-test.true)
     ∙ c.loop-byte.invariant
 

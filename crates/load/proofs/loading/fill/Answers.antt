@@ -14,9 +14,9 @@ pub frames-init : goal.frames-init
 frames-init c =
     fill_none c.args.text.now c.args.store.now c.args.starts.now (passed c.args.text.now (length c.args.store.now) (length c.args.starts.now) c.requires)
 
-pub write-frame-written-requires : goal.write-frame-written-requires
-write-frame-written-requires c =
-    let t = turn (goal.at.write-frame-written-requires c).In-Some in
+pub write_frame-written-requires : goal.write_frame-written-requires
+write_frame-written-requires c =
+    let t = turn (goal.at.write_frame-written-requires c).In-Some in
     record { digits = t.digits; store = omega (arith, t.stored, c.frames.auto.store); starts = omega (arith, t.listed, c.frames.auto.starts) }
 
 pub frames-smaller : goal.frames-smaller
@@ -24,11 +24,11 @@ frames-smaller c = omega (arith, simp length-append at (ap length c.in-Some.ensu
 
 pub frames-preserved : goal.frames-preserved
 frames-preserved c =
-    let told = c.write-frame-written.ensures in
+    let told = c.write_frame-written.ensures in
     simp (told.counts, told.store, told.starts) (turn (goal.at.frames-preserved c).In-Some).more
 
 pub returns : goal.returns
 returns c =
     let admitted = passed c.args.text.now (length c.args.store.now) (length c.args.starts.now) c.requires in
-    let all = fill_all _ _ _ c.frames.rest.now _ _ _ c.frames.invariant admitted c.in-default.ensures in
+    let all = fill_all _ _ _ c.frames.rest.now _ _ _ c.frames.invariant admitted c.in_default.ensures in
     record { store = all.0; starts = all.1 }

@@ -3,10 +3,10 @@ use Rattle.std.proofs.lemmas.Result.{err_from_is_err_and}
 use Rattle.load.proofs.Standing.{load_law, refusal_keeps}
 use Rattle.load.proofs.loading.load.Goals as goal
 
-pub returns-in-err-found : goal.returns-in-err-found
-returns-in-err-found c =
-    let refusal = err_from_is_err_and c.from-residual.result c.from-residual.ensures.1 in
-    let told = c.in-err-found.ensures in
+pub returns-in_err-found : goal.returns-in_err-found
+returns-in_err-found c =
+    let refusal = err_from_is_err_and c.from_residual.result c.from_residual.ensures.1 in
+    let told = c.in_err-found.ensures in
     let answer = refusal.1 ∙ ap (λ e. Err e) refusal.2 ∙ told in
     let kept = refusal_keeps c.args.store.now c.args.starts.now _ _ told in
     record {
@@ -18,7 +18,7 @@ returns-in-err-found c =
 
 pub returns : goal.returns
 returns c =
-    let answer = c.in-ok-found.ensures in
+    let answer = c.in_ok-found.ensures in
     let told = c.fill.ensures in
     record {
       answer = answer;

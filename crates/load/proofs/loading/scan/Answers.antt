@@ -11,8 +11,8 @@ frames-smaller c = omega (arith, simp length-append at (ap length c.in-Some.ensu
 pub frames-preserved : goal.frames-preserved
 frames-preserved c =
     let cut = c.in-Some.ensures in
-    subst (Counting c.args.text.now c.in-Some.front.rest.now) (sym c.and-frame-found.ensures)
+    subst (Counting c.args.text.now c.in-Some.front.rest.now) (sym c.and_frame-found.ensures)
     (count_more c.args.text.now c.frames.rest.now c.frames.found c.frames.invariant _ _ cut.0 cut.1)
 
 pub returns : goal.returns
-returns c = c.conclude.ensures ∙ count_all _ c.frames.rest.now _ c.frames.invariant c.in-default.ensures
+returns c = c.conclude.ensures ∙ count_all _ c.frames.rest.now _ c.frames.invariant c.in_default.ensures
