@@ -1,6 +1,6 @@
 -- Counting byte by byte and adding a token's length come to one place: only a line end has the byte that begins a line.
 use Rattle.std.proofs.Common.{◌≡◌, ℕ, ◌+◌, Bool, true, false, cond, eqb, List, [], ◌∷◌, ◌++◌, length, Some, None, Option, sym, refl, ap, ◌∙◌, subst, add-zero, arith}
-use Rattle.std.specs.List.{AllByRecursion as All}
+use Rattle.std.specs.List.{AllByRecursion}
 use Rattle.std.proofs.ByRecursion.{All-append, All-weaker}
 use Rattle.std.proofs.lemmas.Bool.{cond-false}
 use Rattle.std.proofs.lemmas.Bool.Decides.{nat_tests}
@@ -29,7 +29,7 @@ Plain b = eqb b 10 ≡ false
 moved_plain : (p : Position) (b : ℕ) → Plain b → moved p b ≡ (p.0, p.1 + 1)
 moved_plain p b e = cond-false (eqb b 10) (p.0 + 1, 1) (p.0, p.1 + 1) e
 
-along_plain : (p : Position) (w : List ℕ) → All Plain w → along p w ≡ (p.0, p.1 + length w)
+along_plain : (p : Position) (w : List ℕ) → AllByRecursion Plain w → along p w ≡ (p.0, p.1 + length w)
 along_plain p [] h = λ i. (p.0, sym (add-zero p.1) i)
 along_plain p (b ∷ w) h =
     let far : p.1 + 1 + length w ≡ p.1 + length (b ∷ w) = omega arith in
@@ -78,7 +78,7 @@ abbrev arrived : Bool → ℕ → Position → Position
 arrived t n p = (cond t (p.0 + 1) p.0, cond t 1 (p.1 + n))
 
 -- a token of plain bytes, whose kind is not that of the line end
-plain_moves : (kind : ℕ) (w : List ℕ) (p : Position) → eqb kind 15 ≡ false → All Plain w → along p w ≡ arrived (eqb kind 15) (length w) p
+plain_moves : (kind : ℕ) (w : List ℕ) (p : Position) → eqb kind 15 ≡ false → AllByRecursion Plain w → along p w ≡ arrived (eqb kind 15) (length w) p
 plain_moves kind w p e h = along_plain p w h ∙ ap (λ t. arrived t (length w) p) (sym e)
 
 abbrev Moves : ℕ → List ℕ → Position → Type 0
@@ -91,10 +91,10 @@ lexical_moves kind w rest (is_word k r some few) p =
     subst (λ k. Moves k w p) (sym k) (plain_moves (word_kind (keyword_of w)) w p (word_kind_is (keyword_of w)) (All-weaker _ Plain letter_plain w r.all))
 lexical_moves kind w rest (is_name inner k e all) p =
     subst (λ k. Moves k w p) (sym k)
-    (plain_moves 3 w p refl (subst (All Plain) (sym e) (refl, All-append Plain inner (34 ∷ []) (All-weaker _ Plain name_plain inner all) (refl, tt))))
+    (plain_moves 3 w p refl (subst (AllByRecursion Plain) (sym e) (refl, All-append Plain inner (34 ∷ []) (All-weaker _ Plain name_plain inner all) (refl, tt))))
 lexical_moves kind w rest (is_mark b m k e is) p =
-    subst (λ k. Moves k w p) (sym k) (plain_moves (mark_kind m) w p (mark_kind_is m) (subst (All Plain) (sym e) (mark_plain b m is, tt)))
+    subst (λ k. Moves k w p) (sym k) (plain_moves (mark_kind m) w p (mark_kind_is m) (subst (AllByRecursion Plain) (sym e) (mark_plain b m is, tt)))
 lexical_moves kind w rest (is_line_end k e) p = subst (λ k. Moves k w p) (sym k) (subst (λ v. Moves 15 v p) (sym e) refl)
 lexical_moves kind w rest (is_comment inner k e r) p =
     subst (λ k. Moves k w p) (sym k)
-    (plain_moves 16 w p refl (subst (All Plain) (sym e) (refl, All-weaker _ Plain comment_plain inner r.all)))
+    (plain_moves 16 w p refl (subst (AllByRecursion Plain) (sym e) (refl, All-weaker _ Plain comment_plain inner r.all)))

@@ -1,6 +1,6 @@
 -- Tokens that the relation names stand where their places say: the place of what is left is always the one behind what was read.
 use Rattle.std.proofs.Common.{◌≡◌, ℕ, List, [], ◌∷◌, ◌++◌, sym, refl, ap, ◌∙◌, append_assoc, append-nil}
-use Rattle.std.specs.List.{AllByRecursion as All}
+use Rattle.std.specs.List.{AllByRecursion}
 use Rattle.source.specs.Meaning.{Last}
 use Rattle.sheet.specs.Places.{Position, place, moved, along, Stands, Stops}
 use Rattle.sheet.specs.Reads.{Reads, at_end, skips, takes, breaks}
@@ -10,7 +10,7 @@ use Rattle.sheet.proofs.Positions.{along_append}
 
 module _ (sheet : List ℕ) where
   -- with what was read before
-  pub standing : (earlier s : List ℕ) (p : Position) (ts : List Spot) (l : Last ScanFault) → sheet ≡ earlier ++ s → p ≡ along (1, 1) earlier → Reads s p ts l → All (Stands sheet) ts × Stops sheet l
+  pub standing : (earlier s : List ℕ) (p : Position) (ts : List Spot) (l : Last ScanFault) → sheet ≡ earlier ++ s → p ≡ along (1, 1) earlier → Reads s p ts l → AllByRecursion (Stands sheet) ts × Stops sheet l
   standing earlier _ _ _ _ e here (at_end s p none) =
       let all : sheet ≡ earlier = e ∙ ap (λ r. earlier ++ r) none ∙ append-nil earlier in
       (tt, ap place (here ∙ ap (along (1, 1)) (sym all)))

@@ -1,7 +1,7 @@
 -- A sheet and its tokens as a relation: each token is a longest run, a quoted name that is closed, a mark, a line end, or a comment
 -- up to the line end.
 use Rattle.std.specs.Prelude.{◌≡◌, ℕ, ◌<◌, ◌≤◌, Bool, true, List, [], ◌∷◌, ◌++◌, length, nat_eq}
-use Rattle.std.specs.List.{AllByRecursion as All}
+use Rattle.std.specs.List.{AllByRecursion}
 use Rattle.byte_classes.specs.Classes.{class_of, blank}
 use Rattle.byte_classes.specs.Keywords.{keyword_of}
 use Rattle.byte_classes.specs.declared.class.Class.TheVariants.{Mark, Other}
@@ -22,14 +22,14 @@ Begins p (b ∷ bs) = p b ≡ true
 
 -- w has only bytes that pass, and the text behind it begins with none
 pub record Run (p : ℕ → Bool) (w rest : List ℕ) : Type 0 where
-  pub all : All (λ b. p b ≡ true) w
+  pub all : AllByRecursion (λ b. p b ≡ true) w
   pub longest : Begins p rest → ⊥
 
 -- w is a token of this kind where `rest` follows it
 pub data Lexical (kind : ℕ) (w rest : List ℕ) : Type 0 where
   is_number : kind ≡ 1 → Run (member Digits) w rest → 0 < length w → length w ≤ 32 → Lexical kind w rest
   is_word : kind ≡ word_kind (keyword_of w) → Run (member Letters) w rest → 0 < length w → length w ≤ 32 → Lexical kind w rest
-  is_name : (inner : List ℕ) → kind ≡ 3 → w ≡ 34 ∷ (inner ++ 34 ∷ []) → All (λ b. member Name b ≡ true) inner → Lexical kind w rest
+  is_name : (inner : List ℕ) → kind ≡ 3 → w ≡ 34 ∷ (inner ++ 34 ∷ []) → AllByRecursion (λ b. member Name b ≡ true) inner → Lexical kind w rest
   is_mark : (b : ℕ) (m : mark.Mark) → kind ≡ mark_kind m → w ≡ b ∷ [] → class_of b ≡ Mark m → Lexical kind w rest
   is_line_end : kind ≡ 15 → w ≡ 10 ∷ [] → Lexical kind w rest
   is_comment : (inner : List ℕ) → kind ≡ 16 → w ≡ 35 ∷ inner → Run (member Comment) inner rest → Lexical kind w rest
