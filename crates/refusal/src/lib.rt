@@ -3,8 +3,6 @@
 
 ghost use Rattle.std.specs.Prelude.{◌≡◌, ℕ};
 
-use std::convert::Infallible;
-
 /// A refusal or a fault that has a number.
 pub trait Numbered {
     ghost number: { Self → ℕ };
@@ -12,13 +10,4 @@ pub trait Numbered {
     /// The number that it is known by.
     fn number(&self) -> u8
         ensures { result ≡ number self.now };
-}
-
-// A source that never fails has a fault that never comes.
-impl Numbered for Infallible {
-    ghost number = { λ _. 0 };
-
-    fn number(&self) -> u8 {
-        match *self {}
-    }
 }

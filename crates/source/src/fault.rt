@@ -4,6 +4,7 @@ ghost use Rattle.source.specs.Refusals.{layer_number, lift, too_long};
 
 use crate::token::Place;
 use refusal::Numbered;
+use std::convert::Infallible;
 
 /// More bytes than a source is opened on.
 #[derive(Clone, Copy, PartialEq, Eq, Debug)]
@@ -39,6 +40,19 @@ impl<F: Numbered> Numbered for LayerFault<F> {
     fn number(&self) -> u8 {
         match self {
             LayerFault::Under(fault) => fault.number(),
+            LayerFault::QuotaUsed => 22,
+        }
+    }
+}
+
+// `Infallible` has no value, so nothing can be promised of its number, and it is not `Numbered`.
+impl LayerFault<Infallible> {
+    /// The number of a fault of a layer over a source that has none.
+    pub fn number(&self) -> u8
+        ensures { result ≡ layer_number (λ _. 0) self.now }
+    {
+        match self {
+            LayerFault::Under(never) => match *never {},
             LayerFault::QuotaUsed => 22,
         }
     }
