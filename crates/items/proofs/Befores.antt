@@ -1,12 +1,12 @@
 -- What stands before a dot, read off the right sides: the symbol at the place below the dot.
-use Rattle.std.proofs.Common.{◌≡◌, ℕ, zero, suc, ◌+◌, ◌-◌, ◌<◌, ◌≤◌, ◌⊎◌, List, [], ◌∷◌, ◌++◌, map, length, get_or, Some, None, Option, sym, refl, ap, ◌∙◌, subst, inl, inr, arith}
-use mathlib.Core.Option.{some, none}
+use Rattle.std.proofs.Common.{◌≡◌, ℕ, zero, suc, ◌+◌, ◌-◌, ◌<◌, List, [], ◌∷◌, ◌++◌, length, get_or, Some, sym, refl, ap, ◌∙◌, arith}
+use mathlib.Core.Option.{some}
 use Rattle.grammar.specs.Grammar as grammar
 use Rattle.grammar.specs.Grammar.{Grammar, rule_at, IsRule}
 use Rattle.grammar.specs.Item.{Item, start_rule, augmented, Before}
 use Rattle.solver.specs.declared.rule.Rule.{Rule}
 use Rattle.solver.specs.Solution.{rule_of, rules_of}
-use Rattle.items.specs.Symbols.{rule_right, entry_at, right_side}
+use Rattle.items.specs.Symbols.{entry_at, right_side}
 
 -- a list cut at one of its symbols
 pub record Cut (xs : List ℕ) (i X : ℕ) : Type 0 where

@@ -1,11 +1,11 @@
 -- The nonterminals before the dots of a closure are those linked: a seed stands before a dot of the set itself, and each link is a rule that the
 -- closure brings in with the dot at its end.
-use Rattle.std.proofs.Common.{◌≡◌, ℕ, zero, suc, ◌+◌, ◌-◌, ◌*◌, ◌/◌, ◌%◌, ◌<◌, ◌≤◌, Bool, true, false, cond, ◌&&◌, ltb, ◌⊎◌, List, [], ◌∷◌, ◌++◌, length, get_or, Some, None, Decides, Option, sym, refl, ap, ◌∙◌, subst, ap₂, inl, inr, arith, length-append}
-use mathlib.Core.Option.{some, none}
-use Rattle.std.proofs.lemmas.Bool.{true≢false, cases_lt, cases_Bool, cond-true, cond-false, lt-ltb, le-ltb, ltb-true, and_parts, and_from}
+use Rattle.std.proofs.Common.{◌≡◌, ℕ, ◌+◌, ◌-◌, ◌*◌, ◌/◌, ◌%◌, ◌<◌, ◌≤◌, Bool, true, false, cond, ◌&&◌, ltb, ◌⊎◌, List, [], ◌∷◌, ◌++◌, length, get_or, Some, None, Decides, Option, sym, refl, ap, ◌∙◌, subst, ap₂, inl, inr, arith, length-append}
+use mathlib.Core.Option.{some}
+use Rattle.std.proofs.lemmas.Bool.{true≢false, cases_lt, cond-true, cond-false, lt-ltb, le-ltb, ltb-true, and_parts, and_from}
 use Rattle.grammar.specs.Grammar as grammar
 use Rattle.grammar.specs.Grammar.{Grammar, rule_at, IsRule, IsNonterminal, WellFormed}
-use Rattle.grammar.specs.Item.{Item, start_rule, augmented, Before, Closure, of_kernel, of_rule, HasNext}
+use Rattle.grammar.specs.Item.{Item, Before, Closure, of_kernel, of_rule, HasNext}
 use Rattle.grammar.proofs.Augmented.{rule_augmented}
 use Rattle.solver.specs.declared.rule.Rule.{Rule}
 use Rattle.solver.specs.declared.yes.Yes.{Yes}
@@ -15,12 +15,12 @@ use Rattle.items.specs.declared.places.Places.{Places}
 use Rattle.items.specs.Sets.{has}
 use Rattle.items.specs.Symbols.{rule_right, entry_at, right_side}
 use Rattle.items.specs.Links.{Linked, seed, link}
-use Rattle.items.specs.Closures.{no_link, seed_of, link_to, seed_at, last_link, last_at, link_at}
+use Rattle.items.specs.Closures.{no_link, seed_of, link_to, seed_at, last_at, link_at}
 use Rattle.items.specs.Actives.{In, RulesOf, mark}
 use Rattle.items.proofs.Linking.{Short, linked_told}
 use Rattle.items.proofs.Grids.{none_beyond}
 use Rattle.items.proofs.RightSides.{last_there, last_beyond}
-use Rattle.items.proofs.Befores.{Cut, entry→cut, cut→entry, entry→before, before→entry, before_up, rule_there, rule_found, rule_right_is, from_augmented}
+use Rattle.items.proofs.Befores.{Cut, entry→cut, entry→before, before→entry, before_up, rule_there, rule_found, rule_right_is, from_augmented}
 
 -- the items of a set lie within its bounds
 pub dot_low : (s : Places) (i : Item) → has s i ≡ true → i.dot < 7

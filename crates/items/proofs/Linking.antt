@@ -1,8 +1,8 @@
 -- Seeds and links as equations in yes and no: the least solution tells what is found. It holds nothing else, since it is made from bottom by
 -- rules; and it holds all of that, since it solves the equations.
-use Rattle.std.proofs.Common.{◌≡◌, ℕ, zero, suc, ◌<◌, ◌≤◌, Bool, true, false, cond, ◌&&◌, ◌||◌, eqb, ltb, ◌⊎◌, List, [], ◌∷◌, get_or, Decides, sym, refl, ap, ◌∙◌, subst, inl, inr, arith}
-use mathlib.Core.Option.{Option, some}
-use Rattle.std.proofs.lemmas.Bool.{true≢false, cases_eq, cond-true, cond-false, eq-eqb, ne_eqb, le-ltb, or_cases, or_left, or_right, and_parts}
+use Rattle.std.proofs.Common.{◌≡◌, ℕ, zero, suc, Bool, true, false, ◌&&◌, ◌⊎◌, List, [], ◌∷◌, get_or, Decides, sym, refl, ap, ◌∙◌, subst, inl, inr, arith}
+use mathlib.Core.Option.{some}
+use Rattle.std.proofs.lemmas.Bool.{true≢false, cases_eq, cond-true, cond-false, eq-eqb, ne_eqb, le-ltb, or_cases, or_left, or_right}
 use Rattle.grammar.specs.Grammar.{Rule, Grammar, IsNonterminal, IsRule, rule_at}
 use Rattle.grammar.specs.Equations.{value, product_of, share, join_of, applied, FromBottom, at_bottom, by_rule, Least}
 use Rattle.solver.specs.declared.yes.Yes.{Yes}

@@ -1,5 +1,5 @@
 -- The reachable nonterminals are those linked to the start symbol by the right sides of rules.
-use Rattle.std.proofs.Common.{◌≡◌, ℕ, ◌+◌, ◌-◌, ◌*◌, ◌/◌, ◌%◌, ◌<◌, ◌≤◌, ◌⊎◌, List, [], ◌∷◌, ◌++◌, length, get_or, Some, None, Decides, Option, sym, refl, ap, ◌∙◌, subst, ap₂, inl, inr, arith, length-append}
+use Rattle.std.proofs.Common.{◌≡◌, ℕ, ◌+◌, ◌*◌, ◌/◌, ◌%◌, ◌<◌, ◌≤◌, ◌⊎◌, List, [], ◌∷◌, ◌++◌, length, get_or, Some, None, Decides, Option, sym, refl, ap, ◌∙◌, subst, ap₂, inl, inr, arith, length-append}
 use mathlib.Core.Option.{some}
 use Rattle.std.proofs.lemmas.Bool.{cases_lt, cond-true, cond-false, lt-ltb, le-ltb}
 use Rattle.grammar.specs.Grammar as grammar
@@ -12,8 +12,8 @@ use Rattle.solver.specs.Solution.{rule_of, rules_of, valuation, LeastOf}
 use Rattle.solver.specs.YesKind.{yes_kind}
 use Rattle.items.specs.Symbols.{rule_right, entry_at}
 use Rattle.items.specs.Links.{Linked, seed, link}
-use Rattle.items.specs.Closures.{no_link, seed_of, link_to}
-use Rattle.items.specs.Reaching.{symbol_link, symbol_link_at, reach_at}
+use Rattle.items.specs.Closures.{no_link, link_to}
+use Rattle.items.specs.Reaching.{symbol_link_at, reach_at}
 use Rattle.items.specs.Actives.{RulesOf, mark}
 use Rattle.items.proofs.Linking.{Short, linked_told}
 use Rattle.items.proofs.RightSides.{symbol_link_there, symbol_link_beyond}

@@ -1,5 +1,5 @@
 -- Right sides and their symbols, by numbers.
-use Rattle.std.proofs.Common.{◌≡◌, ℕ, zero, suc, ◌<◌, ◌≤◌, false, ◌&&◌, eqb, List, [], ◌∷◌, length, get_or, Some, None, Option, sym, refl, ap, ◌∙◌, arith}
+use Rattle.std.proofs.Common.{◌≡◌, ℕ, zero, suc, ◌<◌, ◌≤◌, false, ◌&&◌, eqb, List, [], ◌∷◌, length, get_or, Some, None, refl, arith}
 use Rattle.solver.specs.declared.rule.Rule.{Rule}
 use Rattle.items.specs.Symbols.{rule_right, entry_at, right_side}
 use Rattle.solver.specs.declared.yes.Yes.{Yes}

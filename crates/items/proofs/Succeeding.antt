@@ -1,10 +1,9 @@
 -- The places of a successor, by the marks: an item is in a closure if it is in the set, or if it is a rule of a marked nonterminal with the dot at
 -- its end.
-use Rattle.std.proofs.Common.{◌≡◌, ℕ, zero, suc, ◌+◌, ◌-◌, ◌*◌, ◌/◌, ◌%◌, ◌<◌, ◌≤◌, Bool, true, false, ◌&&◌, ◌||◌, eqb, ltb, leb, ◌⊎◌, List, [], ◌∷◌, length, get_or, Some, None, Decides, Option, sym, refl, ap, ◌∙◌, subst, ap₂, inl, inr, arith, length-append}
+use Rattle.std.proofs.Common.{◌≡◌, ℕ, zero, suc, ◌+◌, ◌-◌, ◌*◌, ◌/◌, ◌%◌, ◌<◌, true, false, eqb, ltb, leb, ◌⊎◌, List, [], ◌∷◌, length, get_or, Some, None, Decides, Option, sym, refl, ap, ◌∙◌, subst, ap₂, inl, inr, arith, length-append}
 use mathlib.Core.Option.{some}
 use lib.ListN.{length-map}
-use Rattle.std.proofs.lemmas.List.{get_or_past}
-use Rattle.std.proofs.lemmas.Bool.{true≢false, cases_lt, lt-ltb, ltb-true, le-leb, leb-true, eq-eqb, eqb-true, and_parts, and_from, or_cases, or_left, or_right}
+use Rattle.std.proofs.lemmas.Bool.{true≢false, lt-ltb, le-leb, eq-eqb, eqb-true, and_parts, and_from, or_cases, or_left, or_right}
 use Rattle.grammar.specs.Grammar as grammar
 use Rattle.grammar.specs.Grammar.{Grammar, rule_at, IsRule, IsNonterminal}
 use Rattle.grammar.specs.Item.{Item, raised, Before, Closure, of_kernel, of_rule, HasNext, NextKernel}
@@ -14,7 +13,7 @@ use Rattle.solver.specs.Solution.{rule_of, rules_of}
 use Rattle.items.specs.declared.places.Places.{Places}
 use Rattle.items.specs.Sets.{has}
 use Rattle.items.specs.Symbols.{rule_right, entry_at, right_side}
-use Rattle.items.specs.Actives.{In, RulesOf, mark, Active}
+use Rattle.items.specs.Actives.{In, RulesOf, Active}
 use Rattle.items.specs.Nexts.{marked, brought_in, in_closure, found, next_has}
 use Rattle.items.proofs.Closed.{dot_low, rule_low}
 use Rattle.items.specs.Closures.{no_link}

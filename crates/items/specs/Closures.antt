@@ -1,6 +1,6 @@
 -- Seeds and links for the nonterminals that stand before a dot of a closure: those of the set's own places, and with each of them those
 -- that its rules end in.
-use Rattle.std.specs.Prelude.{ℕ, zero, suc, ◌-◌, ◌/◌, ◌%◌, Bool, true, false, cond, ◌&&◌, List, [], ◌∷◌, length, Some, None, Option, nat_lt}
+use Rattle.std.specs.Prelude.{ℕ, zero, suc, ◌-◌, ◌/◌, ◌%◌, cond, ◌&&◌, List, [], ◌∷◌, length, Some, None, Option, nat_lt}
 use Rattle.solver.specs.declared.rule.Rule.{Rule}
 use Rattle.items.specs.declared.places.Places.{Places}
 use Rattle.items.specs.Sets.{has}

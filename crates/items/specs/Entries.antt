@@ -1,5 +1,5 @@
 -- The places that a list of bytes stands for.
-use Rattle.std.specs.Prelude.{ℕ, Bool, true, false, ◌&&◌, ◌||◌, List, [], ◌∷◌, ◌==◌}
+use Rattle.std.specs.Prelude.{ℕ, Bool, false, ◌&&◌, ◌||◌, List, [], ◌∷◌, ◌==◌}
 use Rattle.grammar.specs.Item.{Item}
 
 -- Pairs of a rule and a dot, as items.

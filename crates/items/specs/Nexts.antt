@@ -1,5 +1,5 @@
 -- The kernel of a successor, place by place.
-use Rattle.std.specs.Prelude.{ℕ, zero, suc, ◌+◌, ◌/◌, ◌%◌, Bool, true, false, cond, ◌&&◌, ◌||◌, List, [], ◌∷◌, length, Some, None, Option, ◌==◌, nat_le}
+use Rattle.std.specs.Prelude.{ℕ, zero, suc, ◌+◌, Bool, false, ◌&&◌, ◌||◌, List, [], ◌∷◌, length, Some, None, Option, ◌==◌, nat_le}
 use Rattle.solver.specs.declared.rule.Rule.{Rule}
 use Rattle.solver.specs.declared.yes.Yes.{Yes}
 use Rattle.items.specs.declared.places.Places.{Places}

@@ -1,5 +1,5 @@
 -- Sets of places.
-use Rattle.std.specs.Prelude.{ℕ, ◌+◌, ◌*◌, Bool, true, false, ◌&&◌, nat_lt, slice_index_or}
+use Rattle.std.specs.Prelude.{◌+◌, ◌*◌, Bool, false, ◌&&◌, nat_lt, slice_index_or}
 use Rattle.grammar.specs.Item.{Item}
 use Rattle.items.specs.declared.places.Places.{Places}
 pub use Rattle.items.specs.Entries.{same_item}

@@ -1,7 +1,6 @@
 -- The right sides of rules, with the start rule behind the last.
-use Rattle.std.specs.Prelude.{ℕ, zero, suc, Bool, true, false, cond, eqb, ltb, List, [], ◌∷◌, length, get_or, take, Some, None, Option}
+use Rattle.std.specs.Prelude.{ℕ, zero, suc, List, [], ◌∷◌, take, Some, None, Option}
 use Rattle.solver.specs.declared.rule.Rule.{Rule}
-use Rattle.solver.specs.Solution.{rule_of}
 
 -- The symbols on the right of a rule.
 abbrev pub rule_right : Rule → List ℕ

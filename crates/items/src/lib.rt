@@ -1,5 +1,6 @@
 //! Kernel places, closures and successors, over rules as the solver takes them.
 #![tactic(auto)]
+
 mod closing;
 mod next;
 mod places;

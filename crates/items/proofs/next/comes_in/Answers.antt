@@ -4,7 +4,7 @@ use Rattle.items.proofs.next.comes_in.Goals as goal
 
 pub returns-then-r-rules : goal.returns-then-r-rules
 returns-then-r-rules c =
-    c.ends-marked.ensures
+    c.ends_marked.ensures
     ∙ brought_there c.args.rules.now c.args.marks.now c.args.rule c.args.dot (record { left = 0; len = 0; right = [] }) c.if-r-rules.true
 
 pub returns-else-r-rules : goal.returns-else-r-rules

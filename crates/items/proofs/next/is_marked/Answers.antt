@@ -1,4 +1,4 @@
-use Rattle.std.proofs.Common.{◌-◌, false, ◌&&◌, leb, sym, ap}
+use Rattle.std.proofs.Common.{◌-◌, false, leb, sym, ap}
 use Rattle.std.proofs.lemmas.List.{get_or_past}
 use Rattle.std.proofs.lemmas.Bool.{and_right}
 use Rattle.solver.specs.declared.yes.Yes.{Yes}

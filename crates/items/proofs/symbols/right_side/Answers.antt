@@ -4,7 +4,7 @@ use Rattle.items.proofs.symbols.right_side.Goals as goal
 
 pub returns-then-r-rules : goal.returns-then-r-rules
 returns-then-r-rules c =
-    c.symbols-of.ensures ∙ right_there c.args.rules.now c.args.rule (record { left = 0; len = 0; right = [] }) c.if-r-rules.true
+    c.symbols_of.ensures ∙ right_there c.args.rules.now c.args.rule (record { left = 0; len = 0; right = [] }) c.if-r-rules.true
 
 pub returns-then-r-rules-2 : goal.returns-then-r-rules-2
 returns-then-r-rules-2 c = right_start c.args.rules.now c.args.rule c.if-r-rules-2.true

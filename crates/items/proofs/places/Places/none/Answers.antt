@@ -1,4 +1,4 @@
-use Rattle.std.proofs.Common.{◌+◌, ◌*◌, Bool, false, ◌&&◌, ltb, ap, ◌∙◌}
+use Rattle.std.proofs.Common.{◌+◌, ◌*◌, Bool, ◌&&◌, ltb, ap, ◌∙◌}
 use Rattle.items.proofs.Grids.{and_nothing, all_unmarked}
 use Rattle.items.proofs.places.Places.none.Goals as goal
 
