@@ -1,13 +1,13 @@
 -- A state is as defined, by its tests: each symbol named once, the successor by each symbol up to the last nonterminal, and state 0 by itself. No
 -- symbol beyond has a next or a successor.
-use Rattle.std.proofs.Common.{◌≡◌, ℕ, ◌+◌, ◌<◌, ◌≤◌, Bool, true, false, ◌&&◌, ◌⊎◌, ◌↔◌, List, [], ◌∷◌, ◌++◌, Some, None, Decides, Option, sym, refl, ap, ◌∙◌, subst, ap₂, inl, inr, arith}
+use Rattle.std.proofs.Common.{◌≡◌, ℕ, ◌<◌, ◌≤◌, Bool, true, ◌⊎◌, List, [], ◌∷◌, Decides, sym, refl, ap, ◌∙◌, subst, inl, inr, arith}
 use mathlib.Core.List.Memᴰ
 use mathlib.Core.List.{Memᴰ}
 use mathlib.Core.Option as math
-use Rattle.std.proofs.lemmas.Bool.{true≢false, and_parts, and_from, eqb-true, eq-eqb, cases_lt}
+use Rattle.std.proofs.lemmas.Bool.{and_parts, and_from, eq-eqb, cases_lt}
 use Rattle.grammar.specs.Grammar as grammar
 use Rattle.grammar.specs.Grammar.{Grammar, IsSymbol, Every}
-use Rattle.grammar.specs.Item.{Item, Before, HasNext, start_rule}
+use Rattle.grammar.specs.Item.{Item, Before}
 use Rattle.grammar.specs.Table.{SuccessorsAsDefined}
 use Rattle.grammar.proofs.Augmented.{WhichRule, which_rule}
 use Rattle.grammar.proofs.Lists.{every_back, every_map}

@@ -1,18 +1,15 @@
 -- Equal states have the same sets, and who leads to whom is read off the lists where each symbol is named once.
-use Rattle.std.proofs.Common.{◌≡◌, ℕ, ◌+◌, ◌<◌, ◌≤◌, Bool, true, false, ◌⊎◌, ◌↔◌, List, [], ◌∷◌, length, get_or, drop, Decides, sym, refl, ap, ◌∙◌, subst, inl, inr, arith, length-drop}
+use Rattle.std.proofs.Common.{◌≡◌, ℕ, ◌+◌, ◌<◌, ◌≤◌, Bool, true, false, ◌⊎◌, List, [], ◌∷◌, length, get_or, drop, Decides, sym, ap, ◌∙◌, subst, inl, inr, arith, length-drop}
 use mathlib.Core.List.Memᴰ
 use mathlib.Core.List.{Memᴰ}
-use mathlib.Core.Option as math
 use Rattle.std.proofs.lemmas.Bool.{true≢false}
-use Rattle.grammar.specs.Item.{Item}
-use Rattle.grammar.specs.Table.{Kernel, Word, EqualStates, Found}
+use Rattle.grammar.specs.Table.{EqualStates, Found}
 use Rattle.frames.specs.declared.header.Section as section
 use Rattle.frames.specs.Raw.{Raw, header_of, section_of}
 use Rattle.frames.proofs.Turns.{drop_two}
-use Rattle.items.specs.Sets.{has}
 use Rattle.lookahead.proofs.Comparing.{equal_words}
 use Rattle.table.specs.declared.state.State.{State}
-use Rattle.table.specs.Contents.{table_of, Successor, successors_in, successor_in}
+use Rattle.table.specs.Contents.{table_of, Successor, successors_in}
 use Rattle.table.specs.Drafts.{Formed}
 use Rattle.table.specs.Rows.{SuccessorsOnce}
 use Rattle.table.specs.States.{IsState, SameStates, LeadsTo}

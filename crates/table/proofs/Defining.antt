@@ -1,19 +1,18 @@
 -- A successor is as defined just when the sets computed for it are those of the state that the table names, or have no place where it names none.
-use Rattle.std.proofs.Common.{◌≡◌, ℕ, ◌+◌, ◌-◌, ◌<◌, ◌≤◌, Bool, true, false, ◌⊎◌, ◌↔◌, List, [], ◌∷◌, take, Some, None, Decides, Option, sym, refl, ap, ◌∙◌, subst, ap₂, inl, inr, arith}
+use Rattle.std.proofs.Common.{◌≡◌, ℕ, ◌+◌, ◌-◌, ◌<◌, Bool, true, false, ◌⊎◌, ◌↔◌, List, [], ◌∷◌, take, Some, None, Decides, sym, refl, ap, ◌∙◌, subst, inl, inr, arith}
 use mathlib.Core.Option as math
-use Rattle.std.proofs.lemmas.Bool.{true≢false, false≢true, cases_Bool}
+use Rattle.std.proofs.lemmas.Bool.{true≢false, cases_Bool}
 use Rattle.grammar.specs.Grammar.{Grammar, IsSymbol}
-use Rattle.grammar.specs.First.{First, FirstWith}
+use Rattle.grammar.specs.First.{FirstWith}
 use Rattle.grammar.specs.Item.{Item, raised, Before, Closure, of_kernel, of_rule, HasNext, NextKernel}
 use Rattle.grammar.specs.Equations.{value}
-use Rattle.grammar.specs.Table.{Kernel, Word, HasSuccessor}
-use Rattle.solver.specs.declared.rule.Rule.{Rule}
+use Rattle.grammar.specs.Table.{Kernel, Word}
 use Rattle.solver.specs.Solution.{valuation}
-use Rattle.words.specs.Sets.{member, word_kind}
+use Rattle.words.specs.Sets.{word_kind}
 use Rattle.words.specs.declared.set.Words.{Words}
 use Rattle.items.specs.declared.places.Places.{Places}
 use Rattle.items.specs.Sets.{has}
-use Rattle.items.specs.Actives.{In, RulesOf, NextOf}
+use Rattle.items.specs.Actives.{NextOf}
 use Rattle.frames.specs.declared.header.Section as section
 use Rattle.frames.specs.Raw.{Raw, header_of, section_of}
 use Rattle.frames.specs.Views.{raw}

@@ -1,8 +1,8 @@
 -- FIRST of all symbols, from sets at the front of a list.
-use Rattle.std.proofs.Common.{◌≡◌, ℕ, ◌+◌, ◌-◌, ◌<◌, ◌≤◌, Bool, true, false, cond, ltb, ◌⊎◌, List, [], ◌∷◌, ◌++◌, length, get_or, Decides, sym, refl, ap, ◌∙◌, subst, inl, inr, arith}
+use Rattle.std.proofs.Common.{◌≡◌, ℕ, ◌-◌, ◌<◌, List, [], ◌∷◌, ◌++◌, length, Decides, sym, ◌∙◌, subst, inl, inr, arith}
 use Rattle.std.proofs.lemmas.List.{get_or_append_left}
 use Rattle.std.proofs.lemmas.Bool.{cond-true, cond-false, lt-ltb, le-ltb}
-use Rattle.grammar.specs.Grammar.{Grammar, IsSymbol}
+use Rattle.grammar.specs.Grammar.{IsSymbol}
 use Rattle.grammar.specs.First.{First}
 use Rattle.grammar.specs.Equations.{value}
 use Rattle.solver.specs.declared.rule.Rule.{Rule}

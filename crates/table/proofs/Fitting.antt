@@ -50,6 +50,15 @@ if_some : (o : math.Option ℕ) (a : Option ℕ) (p : ℕ) → if_successor o a 
 if_some math.none a p e = let z : ◌≡◌ {A = ℕ} 0 1 = cc in absurd (omega arith)
 if_some (math.some s) a p e = ((s, refl), e)
 
+-- what a rule fits by: with no successor by its left side there is no state, and with one it is the state after its right side
+pub behind_none : (o : math.Option ℕ) (a : Option ℕ) → answered o ≡ None → None ≡ if_successor o a
+behind_none math.none a e = refl
+behind_none (math.some s) a e = let z : ◌≡◌ {A = ℕ} 0 1 = cc in absurd (omega arith)
+
+pub behind_some : (o : math.Option ℕ) (a : Option ℕ) (s : ℕ) → answered o ≡ Some s → a ≡ if_successor o a
+behind_some math.none a s e = let z : ◌≡◌ {A = ℕ} 0 1 = cc in absurd (omega arith)
+behind_some (math.some q) a s e = refl
+
 pub fitting_within : (R : Raw) → Formed R → (q : ℕ) → q < (header_of R).s → (r p : ℕ) → fitting_state R q r ≡ Some p → p < (header_of R).s
 fitting_within R formed q l r p e =
     let (_, at) = if_some ((table_of R).next q (left_of R r)) (after_in (table_of R) q (right_of R r)) p e in

@@ -1,13 +1,13 @@
 -- What the frames of a table of the right form hold: the header's numbers are in their ranges, rules are made of symbols, and every section has
 -- entries of its kind.
-use Rattle.std.proofs.Common.{◌≡◌, ℕ, zero, suc, ◌+◌, ◌-◌, ◌*◌, ◌%◌, ◌<◌, ◌≤◌, Bool, true, false, cond, ◌&&◌, ◌||◌, eqb, ltb, leb, ◌⊎◌, List, [], ◌∷◌, length, get_or, drop, sym, refl, ap, ◌∙◌, subst, ap₂, inl, inr, arith, length-drop}
+use Rattle.std.proofs.Common.{◌≡◌, ℕ, zero, suc, ◌+◌, ◌-◌, ◌*◌, ◌%◌, ◌<◌, ◌≤◌, true, false, cond, eqb, ltb, leb, ◌⊎◌, List, [], ◌∷◌, length, get_or, drop, sym, ap, ◌∙◌, subst, inl, inr, arith, length-drop}
 use mathlib.Core.Option.{some}
-use Rattle.std.proofs.lemmas.Bool.{true≢false, cases_Bool, cond-true, cond-false, lt-ltb, ltb-true, lt-leb, le-leb, leb-true, ne_eqb, eq-eqb, eqb-true, and_parts, or_cases}
-use Rattle.grammar.specs.Grammar.{Rule, Grammar, rule_at, IsToken, IsNonterminal, IsSymbol, IsRule, Every, WellFormed}
+use Rattle.std.proofs.lemmas.Bool.{cases_Bool, cond-true, cond-false, lt-ltb, lt-leb, le-leb, leb-true, ne_eqb, and_parts, or_cases}
+use Rattle.grammar.specs.Grammar.{Rule, rule_at, IsNonterminal, IsSymbol, IsRule, Every, WellFormed}
 use Rattle.frames.specs.declared.header.Header.{Header}
 use Rattle.frames.specs.declared.header.Section.{Section}
 use Rattle.frames.specs.declared.header.Section.TheVariants.{Kernel, Words, Successors, Choices}
-use Rattle.frames.specs.Raw.{Raw, frame, header_of, left_of, right_of, place, section_of}
+use Rattle.frames.specs.Raw.{Raw, frame, header_of, left_of, place, section_of}
 use Rattle.frames.specs.Form.{between, is_token, is_nonterminal, is_symbol, are_symbols, header_good, rule_good, entries_good, section_good, section_at, needed, good_at, frame_good}
 use Rattle.table.specs.Contents.{rule_in, rules_in, grammar_of}
 use Rattle.table.specs.Drafts.{Formed}

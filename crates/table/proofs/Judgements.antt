@@ -1,10 +1,10 @@
 -- From the demands on states to the answers of rows.
-use Rattle.std.proofs.Common.{◌≡◌, ℕ, ◌<◌, ◌≤◌, Bool, true, false, not, ◌⊎◌, Some, None, Decides, sym, refl, ◌∙◌, subst, inl, inr, arith}
+use Rattle.std.proofs.Common.{◌≡◌, ℕ, ◌<◌, ◌≤◌, Bool, true, false, not, ◌⊎◌, Some, None, Decides, sym, refl, inl, inr, arith}
 use Rattle.std.proofs.lemmas.Bool.{true≢false, cases_lt}
 use Rattle.frames.specs.Raw.{Raw, header_of}
 use Rattle.table.specs.declared.rows.StateRow.{StateRow}
 use Rattle.table.specs.declared.rows.StateRow.TheVariants.{Defined, Distinct, Found, OneFits, Chosen}
-use Rattle.table.specs.Rows.{Row, Good, Answers}
+use Rattle.table.specs.Rows.{Good, Answers}
 use Rattle.table.specs.Judging.{row_of, Demand}
 
 pub decides_not : {P : Type 0} (x : Bool) → Decides x P → Decides (not x) (P → ⊥)

@@ -1,12 +1,12 @@
 -- The turns of look-ups: an entry for the key is the answer, one for another tells nothing.
-use Rattle.std.proofs.Common.{◌≡◌, ℕ, zero, suc, ◌+◌, ◌-◌, ◌<◌, ◌≤◌, Bool, true, false, cond, ◌&&◌, eqb, ◌⊎◌, List, [], ◌∷◌, length, get_or, drop, Some, None, Option, sym, refl, ap, ◌∙◌, ap₂, inl, inr, arith, length-drop}
+use Rattle.std.proofs.Common.{◌≡◌, ℕ, zero, suc, ◌+◌, ◌-◌, ◌<◌, ◌≤◌, Bool, true, false, cond, ◌&&◌, eqb, ◌⊎◌, List, [], ◌∷◌, length, get_or, drop, Some, None, sym, refl, ap, ◌∙◌, ap₂, inl, inr, arith, length-drop}
 use mathlib.Core.Option as math
-use Rattle.std.proofs.lemmas.List.{drop_more, drop_all}
-use Rattle.std.proofs.lemmas.Bool.{true≢false, cond-true, cond-false, eq-eqb, ne_eqb, eqb-true, and_from, and_parts, and_left, and_right, cases_eq}
+use Rattle.std.proofs.lemmas.List.{drop_more}
+use Rattle.std.proofs.lemmas.Bool.{true≢false, cond-true, cond-false, eq-eqb, ne_eqb, eqb-true, and_from, and_parts, cases_eq}
 use Rattle.grammar.specs.Table.{Table}
 use Rattle.frames.specs.Form.{word_of}
 use Rattle.frames.proofs.Turns.{drop_two, drop_four}
-use Rattle.lookahead.specs.Entries.{Choice, choices_in}
+use Rattle.lookahead.specs.Entries.{choices_in}
 use Rattle.table.specs.Contents.{successor_in, same_word, choice_in}
 use Rattle.items.specs.Nexts.{found}
 use Rattle.table.specs.States.{answered, onwards, after_in, once_in}

@@ -1,14 +1,14 @@
 -- What the entries of a state's sections are, in a table of the right form, and what is found among them.
-use Rattle.std.proofs.Common.{◌≡◌, ℕ, ◌<◌, ◌≤◌, Bool, true, false, cond, ◌&&◌, eqb, ltb, leb, ◌⊎◌, List, [], ◌∷◌, length, sym, refl, ap, ◌∙◌, subst, ap₂, inl, inr, arith}
+use Rattle.std.proofs.Common.{◌≡◌, ℕ, ◌<◌, Bool, true, false, ◌&&◌, eqb, ltb, leb, ◌⊎◌, List, [], ◌∷◌, length, sym, refl, ap, ◌∙◌, subst, ap₂, inl, inr, arith}
 use mathlib.Core.List.Memᴰ
 use mathlib.Core.List.{Memᴰ}
-use mathlib.Core.Option.{Option, none, some}
-use Rattle.std.proofs.lemmas.Bool.{true≢false, and_parts, eqb-true, ltb-true, leb-true, cases_Bool, cond-true, cond-false}
+use mathlib.Core.Option.{some}
+use Rattle.std.proofs.lemmas.Bool.{and_parts, eqb-true, ltb-true, cond-true, cond-false}
 use Rattle.grammar.specs.Item.{Item}
 use Rattle.frames.specs.declared.header.Section.{Section}
 use Rattle.frames.specs.declared.header.Section.TheVariants.{Kernel, Words, Successors, Choices}
-use Rattle.frames.specs.Raw.{Raw, header_of, right_of, section_of}
-use Rattle.frames.specs.Form.{is_nonterminal, is_symbol, is_word, word_of, below, is_kernel_place, pair_good, choice_good, pairs_good, choices_good, entries_good}
+use Rattle.frames.specs.Raw.{Raw, header_of, section_of}
+use Rattle.frames.specs.Form.{is_nonterminal, is_symbol, is_word, word_of, below, is_kernel_place, pair_good, choice_good, pairs_good, choices_good}
 use Rattle.items.specs.Entries.{items}
 use Rattle.lookahead.specs.Entries.{words_in, Choice, choices_in, AllWords, AllChoices}
 use Rattle.table.specs.Contents.{Successor, successors_in, successor_in, same_word, choice_in}

@@ -1,13 +1,11 @@
 -- State 0 is as defined just when it is the state of the one start item and the one word that is the end mark.
-use Rattle.std.proofs.Common.{◌≡◌, ℕ, zero, suc, ◌+◌, ◌<◌, ◌≤◌, Bool, true, false, ◌&&◌, ◌||◌, ◌⊎◌, ◌↔◌, List, [], ◌∷◌, length, Decides, sym, refl, ap, ◌∙◌, subst, inl, inr, arith}
+use Rattle.std.proofs.Common.{◌≡◌, ℕ, zero, suc, ◌<◌, Bool, true, false, ◌&&◌, ◌↔◌, List, [], ◌∷◌, length, Decides, sym, refl, ap, ◌∙◌, arith}
 use mathlib.Core.List.Memᴰ
 use mathlib.Core.List.{Memᴰ}
 use Rattle.std.proofs.lemmas.Bool.{true≢false, and_parts, and_from, lt-ltb}
 use Rattle.grammar.specs.Item.{Item, start_item}
-use Rattle.grammar.specs.Table.{Kernel, Word, StartAsDefined}
-use Rattle.words.specs.Codes.{cut}
-use Rattle.words.specs.declared.set.Words.{Words}
-use Rattle.items.specs.Entries.{items, mentions}
+use Rattle.grammar.specs.Table.{Word, StartAsDefined}
+use Rattle.items.specs.Entries.{mentions}
 use Rattle.items.specs.Sets.{has, in_grid}
 use Rattle.frames.specs.declared.header.Header.{Header}
 use Rattle.frames.specs.declared.header.Section as section

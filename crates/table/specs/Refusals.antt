@@ -1,5 +1,5 @@
 -- The refusals of the check, by number.
-use Rattle.std.specs.Prelude.{List, [], ◌∷◌}
+use Rattle.std.specs.Prelude.{[], ◌∷◌}
 use Rattle.refusal.specs.Refusal.{Refusal}
 use Rattle.table.specs.declared.refused.CheckRefusal.{CheckRefusal}
 use Rattle.table.specs.declared.refused.CheckRefusal.TheVariants.{Frame, Unproductive, Unreachable, Undefined, EqualToLower, NotFound, TwoFit, Mischosen}

@@ -4,7 +4,8 @@ use mathlib.Core.List.{Memᴰ}
 use Rattle.std.proofs.Math.Option.{some}
 use Rattle.grammar.specs.Grammar.{IsNonterminal}
 use Rattle.grammar.specs.Sound.{Productive, Reachable}
-use Rattle.grammar.specs.Table.{StateAsDefined, EqualToLower, NotFound, TwoFit, ChoicesAsDefined}
+use Rattle.grammar.specs.Table.{StateAsDefined, ChoicesAsDefined}
+use Rattle.grammar.specs.Table as table
 use Rattle.frames.specs.declared.header.Section.TheVariants.{Successors, Choices}
 use Rattle.frames.specs.Raw.{Raw, header_of, section_of}
 use Rattle.frames.specs.Form.{numbers_good, start_good, frame_good}
@@ -43,9 +44,9 @@ Good R frames i = frame_good R i ≡ true
 Good R productive A = IsNonterminal (grammar_of R) A → Productive (grammar_of R) A
 Good R reachable A = IsNonterminal (grammar_of R) A → Reachable (grammar_of R) A
 Good R defined q = q < (header_of R).s → StateGood R q
-Good R distinct q = q < (header_of R).s → EqualToLower (table_of R) q → ⊥
-Good R found q = q < (header_of R).s → NotFound (table_of R) q → ⊥
-Good R one_fits q = q < (header_of R).s → TwoFit (grammar_of R) (table_of R) q → ⊥
+Good R distinct q = q < (header_of R).s → table.EqualToLower (table_of R) q → ⊥
+Good R found q = q < (header_of R).s → table.NotFound (table_of R) q → ⊥
+Good R one_fits q = q < (header_of R).s → table.TwoFit (grammar_of R) (table_of R) q → ⊥
 Good R chosen q = q < (header_of R).s → ChoicesGood R q
 
 -- A cause applies where a row's demand is not met.

@@ -1,5 +1,5 @@
 -- What is proved of the check's answer. The contracts ask for it.
-use Rattle.std.specs.Prelude.{◌≡◌, ℕ, ◌<◌, ◌↔◌, List, [], ◌∷◌, ◌++◌, Ok, Result}
+use Rattle.std.specs.Prelude.{◌≡◌, ℕ, ◌<◌, ◌↔◌, [], ◌∷◌, ◌++◌, Ok, Result}
 use mathlib.Core.List.{Memᴰ}
 use Rattle.grammar.specs.Sound.{Sound}
 use Rattle.grammar.specs.Parser.{Deterministic}
@@ -8,7 +8,7 @@ use Rattle.grammar.specs.LL.{IsLL}
 use Rattle.frames.specs.Raw.{Raw, header_of}
 use Rattle.table.specs.declared.refused.CheckRefusal.{CheckRefusal}
 use Rattle.table.specs.Contents.{grammar_of, table_of}
-use Rattle.table.specs.Rows.{Row, numbers, starts, frames, productive, reachable, defined, distinct, found, one_fits, form_rows, grammar_rows, SuccessorsOnce, ChoicesOnce, Good, Applies, Verdict, AcceptedFile}
+use Rattle.table.specs.Rows.{Row, defined, distinct, found, one_fits, form_rows, grammar_rows, SuccessorsOnce, ChoicesOnce, Good, Applies, Verdict, AcceptedFile}
 
 -- There is one answer only.
 abbrev pub VerdictIsOne : Type 0

@@ -12,5 +12,5 @@ returns g c =
     record {
       places = subst (λ (ρs : List Rule). NextOf ρs s c.args.symbol c.successor.result) rules
           (c.successor.ensures (subst (λ (ρs : List Rule). Active ρs s c.args.marks.now) (sym rules) c.requires.marks));
-      words = c.times.ensures ∙ ap (λ (f : Words g.row.K). (word_kind g.row.K).product f c.args.here.now.words) c.first-of.ensures;
+      words = c.times.ensures ∙ ap (λ (f : Words g.row.K). (word_kind g.row.K).product f c.args.here.now.words) c.first_of.ensures;
     }

@@ -8,8 +8,8 @@ use Rattle.table.proofs.AsDefined.{all_defined, successors_as_defined, each_defi
 use Rattle.table.proofs.Starting.{decides_no, decides_yes}
 use Rattle.table.proofs.defined.successors_defined.Goals as goal
 
-pub symbol-defined-requires : goal.symbol-defined-requires
-symbol-defined-requires g c = (
+pub symbol_defined-requires : goal.symbol_defined-requires
+symbol_defined-requires g c = (
   omega arith,
   (
     omega arith,
@@ -20,8 +20,8 @@ symbol-defined-requires g c = (
         (
           c.requires.firsts,
           (
-            c.state-at-here.ensures,
-            subst (λ (ρs : List Rule). Active ρs c.state-at-here.result.places c.active-marks.result) c.rules.ensures c.active-marks.ensures,
+            c.state_at-here.ensures,
+            subst (λ (ρs : List Rule). Active ρs c.state_at-here.result.places c.active-marks.result) c.rules.ensures c.active-marks.ensures,
           ),
         ),
       ),
@@ -29,16 +29,16 @@ symbol-defined-requires g c = (
   ),
 )
 
-pub returns-then-not-symbol-defined : goal.returns-then-not-symbol-defined
-returns-then-not-symbol-defined g c =
-    decides_no (λ s. true≢false (sym (c.symbol-defined.ensures.1 (each_defined (raw c.args.draft.now.frames) c.requires.draft.drafted.formed c.args.q s c.loop-symbol.symbol))
-    ∙ c.if-not-symbol-defined.true))
+pub returns-then-not-symbol_defined : goal.returns-then-not-symbol_defined
+returns-then-not-symbol_defined g c =
+    decides_no (λ s. true≢false (sym (c.symbol_defined.ensures.1 (each_defined (raw c.args.draft.now.frames) c.requires.draft.drafted.formed c.args.q s c.loop-symbol.symbol))
+    ∙ c.if-not-symbol_defined.true))
 
 pub loop-symbol-preserved : goal.loop-symbol-preserved
 loop-symbol-preserved g c =
     λ k low high.
     below_more (λ (k : ℕ). 1 ≤ k → SuccessorDefined (raw c.args.draft.now.frames) c.args.q k) c.loop-symbol.symbol
-    (λ k h l. c.loop-symbol.invariant k l h) (λ _. c.symbol-defined.ensures.0 c.if-not-symbol-defined.false) k high low
+    (λ k h l. c.loop-symbol.invariant k l h) (λ _. c.symbol_defined.ensures.0 c.if-not-symbol_defined.false) k high low
 
 pub returns : goal.returns
 returns g c =

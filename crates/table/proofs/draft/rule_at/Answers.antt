@@ -1,7 +1,6 @@
-use Rattle.std.proofs.Common.{◌≡◌, ℕ, ◌+◌, ◌≤◌, List, length, drop, sym, ap, ◌∙◌, ap₂, arith}
+use Rattle.std.proofs.Common.{◌≡◌, ℕ, ◌+◌, ◌≤◌, List, length, drop, ap, ◌∙◌, ap₂, arith}
 use Rattle.std.proofs.lemmas.Bool.{cond-false, ne_eqb}
-use Rattle.grammar.specs.Grammar as grammar
-use Rattle.frames.specs.Raw.{Raw, frame, header_of, right_of}
+use Rattle.frames.specs.Raw.{frame}
 use Rattle.frames.specs.Views.{raw}
 use Rattle.table.proofs.Formed.{right_short}
 use Rattle.table.proofs.draft.rule_at.Goals as goal
@@ -13,10 +12,10 @@ right_is c = c.right-right.ensures ∙ cond-false _ _ _ (ne_eqb c.args.r _ (λ e
 short : (c : After-right-right) → length c.right-right.result.now ≤ 6
 short c = let s = right_short (raw c.args.frames) c.requires.formed c.args.r c.requires.within in let e = ap length (right_is c) in omega (arith, s, e)
 
-pub overflow-cast-result : goal.overflow-cast-result
-overflow-cast-result c = omega (arith, short (goal.at.overflow-cast-result c).After-right-right)
+pub overflow_cast-result : goal.overflow_cast-result
+overflow_cast-result c = omega (arith, short (goal.at.overflow_cast-result c).After-right-right)
 
 pub returns : goal.returns
 returns c =
     let at = (goal.at.returns c).After-right-right in
-    ap₂ (λ (l : ℕ) (r : List ℕ). record { left = l; right = r }) c.left.ensures (c.first-six.ensures (short at) ∙ right_is at)
+    ap₂ (λ (l : ℕ) (r : List ℕ). record { left = l; right = r }) c.left.ensures (c.first_six.ensures (short at) ∙ right_is at)

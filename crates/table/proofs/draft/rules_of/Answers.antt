@@ -12,7 +12,7 @@ bounds-rules-r c = omega (arith, c.loop-r-test.true, c.requires.number, (ranges 
 
 pub loop-r-preserved : goal.loop-r-preserved
 loop-r-preserved c = (
-  length-set c.loop-r.rules c.loop-r.r c.rule-at.result ∙ c.loop-r.invariant.0,
-  fill_more rule_of (rule_in (raw c.args.frames)) no_link c.loop-r.rules c.loop-r.r c.rule-at.result
-      (omega (arith, c.loop-r-test.true, c.loop-r.invariant.0, c.requires.number, (ranges (raw c.args.frames) c.requires.formed).p_high)) c.rule-at.ensures c.loop-r.invariant.1,
+  length-set c.loop-r.rules c.loop-r.r c.rule_at.result ∙ c.loop-r.invariant.0,
+  fill_more rule_of (rule_in (raw c.args.frames)) no_link c.loop-r.rules c.loop-r.r c.rule_at.result
+      (omega (arith, c.loop-r-test.true, c.loop-r.invariant.0, c.requires.number, (ranges (raw c.args.frames) c.requires.formed).p_high)) c.rule_at.ensures c.loop-r.invariant.1,
 )

@@ -1,4 +1,3 @@
-use Rattle.std.proofs.Common.{◌≡◌}
 use Rattle.table.specs.Fitted.{ChosenAs}
 use Rattle.table.proofs.fits.chosen_as.Given as goal
 

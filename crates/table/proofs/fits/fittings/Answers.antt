@@ -1,7 +1,6 @@
-use Rattle.std.proofs.Common.{◌≡◌, ℕ, ◌<◌, ◌∙◌, subst, arith, length-set}
+use Rattle.std.proofs.Common.{ℕ, ◌∙◌, arith, length-set}
 use Rattle.words.specs.Sets.{no_words}
 use Rattle.words.specs.declared.set.Words.{Words}
-use Rattle.frames.specs.Raw.{header_of}
 use Rattle.frames.specs.Views.{raw}
 use Rattle.table.specs.Fitted.{Fitting}
 use Rattle.table.proofs.Drafting.{numbers, p_is}

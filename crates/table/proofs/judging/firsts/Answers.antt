@@ -1,4 +1,4 @@
-use Rattle.std.proofs.Common.{◌≡◌, ◌-◌, length, replicate, sym, ap, ◌∙◌, subst, arith}
+use Rattle.std.proofs.Common.{◌≡◌, ◌-◌, length, replicate, sym, ap, ◌∙◌, arith}
 use Rattle.std.proofs.lemmas.List.{length-take-le}
 use Rattle.solver.specs.Solution.{rules_of}
 use Rattle.frames.specs.Raw.{header_of}
@@ -7,16 +7,16 @@ use Rattle.table.proofs.Drafting.{numbers, n_is}
 use Rattle.table.proofs.Firsts.{firsts_told}
 use Rattle.table.proofs.judging.firsts.Goals as goal
 
-pub slice-bounds-sets-end : goal.slice-bounds-sets-end
-slice-bounds-sets-end g c = omega (arith, n_is c.args.draft.now c.requires.draft.drafted, (numbers c.args.draft.now c.requires.draft.drafted).n_high)
+pub slice_bounds-sets-end : goal.slice_bounds-sets-end
+slice_bounds-sets-end g c = omega (arith, n_is c.args.draft.now c.requires.draft.drafted, (numbers c.args.draft.now c.requires.draft.drafted).n_high)
 
 pub returns : goal.returns
 returns g c =
     let d = c.args.draft.now in
     let ok = c.requires.draft.drafted in
     let R = raw d.frames in
-    let vs = c.first-sets.new.sets in
+    let vs = c.first_sets.new.sets in
     let small = (numbers d ok).n_high in
     let many : length vs ≡ (header_of R).n =
-    c.first-sets.ensures.as_many ∙ length-take-le (d.header.n - 0) (replicate 24 c.bottom-sets.result) (omega (arith, n_is d ok, small)) ∙ omega (arith, n_is d ok) in
-    firsts_told g.row.K R ok.formed c.requires.draft.cut_is vs _ many c.rules.result.now (sym ok.rules_are ∙ sym (ap rules_of c.rules.ensures)) c.first-sets.ensures.first
+    c.first_sets.ensures.as_many ∙ length-take-le (d.header.n - 0) (replicate 24 c.bottom-sets.result) (omega (arith, n_is d ok, small)) ∙ omega (arith, n_is d ok) in
+    firsts_told g.row.K R ok.formed c.requires.draft.cut_is vs _ many c.rules.result.now (sym ok.rules_are ∙ sym (ap rules_of c.rules.ensures)) c.first_sets.ensures.first

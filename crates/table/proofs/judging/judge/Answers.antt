@@ -9,19 +9,19 @@ use Rattle.table.specs.Rows.{frames, form_rows, grammar_rows, state_rows, Verdic
 use Rattle.table.proofs.Verdicts.{verdict_err, verdict_then, verdict_goods}
 use Rattle.table.proofs.judging.judge.Goals as goal
 
-pub returns-in-err-judge-form : goal.returns-in-err-judge-form
-returns-in-err-judge-form c =
+pub returns-in_err-judge_form : goal.returns-in_err-judge_form
+returns-in_err-judge_form c =
     let R = raw c.args.frames in
-    let refusal = err_from_is_err_and c.from-residual.result c.from-residual.ensures.1 in
+    let refusal = err_from_is_err_and c.from_residual.result c.from_residual.ensures.1 in
     subst (λ (v : Result (Unit {0}) CheckRefusal). Verdict R v) (sym (refusal.1 ∙ ap (λ (e : CheckRefusal). Err e) refusal.2))
-    (verdict_err R form_rows (grammar_rows ++ state_rows) c.in-err-judge-form.field-0.0 c.in-err-judge-form.ensures)
+    (verdict_err R form_rows (grammar_rows ++ state_rows) c.in_err-judge_form.field-0.0 c.in_err-judge_form.ensures)
 
 pub new-requires : goal.new-requires
 new-requires c =
-    λ i bad. true≢false (sym (verdict_goods (raw c.args.frames) form_rows c.in-ok-judge-form.ensures frames (Memᴰ.tail (Memᴰ.tail (Memᴰ.head refl))) i) ∙ bad)
+    λ i bad. true≢false (sym (verdict_goods (raw c.args.frames) form_rows c.in_ok-judge_form.ensures frames (Memᴰ.tail (Memᴰ.tail (Memᴰ.head refl))) i) ∙ bad)
 
 pub returns : goal.returns
 returns c =
     let R = raw c.args.frames in
-    verdict_then R form_rows (grammar_rows ++ state_rows) c.judge-contents.result (verdict_goods R form_rows c.in-ok-judge-form.ensures)
-    (subst (λ (S : Raw). VerdictBy S (grammar_rows ++ state_rows) c.judge-contents.result) c.new.ensures.same c.judge-contents.ensures)
+    verdict_then R form_rows (grammar_rows ++ state_rows) c.judge_contents.result (verdict_goods R form_rows c.in_ok-judge_form.ensures)
+    (subst (λ (S : Raw). VerdictBy S (grammar_rows ++ state_rows) c.judge_contents.result) c.new.ensures.same c.judge_contents.ensures)

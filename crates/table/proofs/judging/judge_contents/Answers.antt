@@ -6,14 +6,14 @@ use Rattle.table.specs.Rows.{grammar_rows, state_rows, VerdictBy}
 use Rattle.table.proofs.Verdicts.{verdict_err, verdict_then, verdict_goods}
 use Rattle.table.proofs.judging.judge_contents.Goals as goal
 
-pub returns-in-err-judge-grammar : goal.returns-in-err-judge-grammar
-returns-in-err-judge-grammar c =
+pub returns-in_err-judge_grammar : goal.returns-in_err-judge_grammar
+returns-in_err-judge_grammar c =
     let R = raw c.args.draft.now.frames in
-    let refusal = err_from_is_err_and c.from-residual.result c.from-residual.ensures.1 in
+    let refusal = err_from_is_err_and c.from_residual.result c.from_residual.ensures.1 in
     subst (λ (v : Result (Unit {0}) CheckRefusal). VerdictBy R (grammar_rows ++ state_rows) v) (sym (refusal.1 ∙ ap (λ (e : CheckRefusal). Err e) refusal.2))
-    (verdict_err R grammar_rows state_rows c.in-err-judge-grammar.field-0.0 c.in-err-judge-grammar.ensures)
+    (verdict_err R grammar_rows state_rows c.in_err-judge_grammar.field-0.0 c.in_err-judge_grammar.ensures)
 
 pub returns : goal.returns
 returns c =
     let R = raw c.args.draft.now.frames in
-    verdict_then R grammar_rows state_rows c.judge-lookahead.result (verdict_goods R grammar_rows c.in-ok-judge-grammar.ensures) c.judge-lookahead.ensures
+    verdict_then R grammar_rows state_rows c.judge_lookahead.result (verdict_goods R grammar_rows c.in_ok-judge_grammar.ensures) c.judge_lookahead.ensures

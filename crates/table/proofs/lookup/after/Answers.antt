@@ -15,13 +15,13 @@ returns-in-None c =
     let T = table_of (raw c.args.frames) in
     after_none T c.args.q c.args.symbols.now (c.symbols.left - 1) (omega (arith, c.symbols.invariant.0))
     (after_turn T c.args.q c.args.symbols.now c.symbols.left c.symbols-test.true c.symbols.invariant.0 c.symbols.state c.symbols.invariant.1
-    ∙ sym c.successor-of.ensures ∙ c.in-None.is)
+    ∙ sym c.successor_of.ensures ∙ c.in-None.is)
 
 pub symbols-preserved : goal.symbols-preserved
 symbols-preserved c = (
   omega (arith, c.symbols.invariant.0),
   after_turn (table_of (raw c.args.frames)) c.args.q c.args.symbols.now c.symbols.left c.symbols-test.true c.symbols.invariant.0 c.symbols.state c.symbols.invariant.1
-      ∙ sym c.successor-of.ensures ∙ c.in-Some.is,
+      ∙ sym c.successor_of.ensures ∙ c.in-Some.is,
 )
 
 pub returns : goal.returns

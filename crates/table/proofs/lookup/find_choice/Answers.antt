@@ -4,15 +4,15 @@ use Rattle.table.specs.States.{answered}
 use Rattle.table.proofs.LookedUp.{choice_hit, choice_miss, choice_end}
 use Rattle.table.proofs.lookup.find_choice.Goals as goal
 
-pub returns-then-is-key : goal.returns-then-is-key
-returns-then-is-key c =
-    choice_hit c.args.nonterminal c.args.first c.args.second c.args.entries.now c.entries.at c.entries-test.true c.if-is-key.ensures
+pub returns-then-is_key : goal.returns-then-is_key
+returns-then-is_key c =
+    choice_hit c.args.nonterminal c.args.first c.args.second c.args.entries.now c.entries.at c.entries-test.true c.if-is_key.ensures
     ∙ ap answered c.entries.invariant.1
 
 pub entries-preserved : goal.entries-preserved
 entries-preserved c = (
   omega (arith, c.entries-test.true),
-  choice_miss c.args.nonterminal c.args.first c.args.second c.args.entries.now c.entries.at c.entries-test.true c.if-is-key.ensures
+  choice_miss c.args.nonterminal c.args.first c.args.second c.args.entries.now c.entries.at c.entries-test.true c.if-is_key.ensures
       ∙ c.entries.invariant.1,
 )
 

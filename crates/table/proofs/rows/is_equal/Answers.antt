@@ -5,4 +5,4 @@ use Rattle.table.proofs.rows.is_equal.Goals as goal
 pub returns : goal.returns
 returns g c =
     equal_decides (raw c.args.draft.now.frames) c.requires.draft.drafted.formed c.args.m c.args.q c.requires.lower c.requires.within
-    c.state-at.result c.args.here.now c.state-at.ensures c.requires.here c.same-state.result c.same-state.ensures
+    c.state_at.result c.args.here.now c.state_at.ensures c.requires.here c.same_state.result c.same_state.ensures

@@ -1,4 +1,4 @@
-use Rattle.std.proofs.Common.{◌-◌, ◌≤◌, length, drop, Decides}
+use Rattle.std.proofs.Common.{◌-◌, ◌≤◌, length, drop}
 use Rattle.table.specs.States.{LeadsTo}
 use Rattle.table.proofs.rows.leads_to.Given as goal
 

@@ -1,4 +1,4 @@
-use Rattle.std.proofs.Common.{◌≡◌, ◌-◌, ◌<◌, false, List, length, replicate, Decides, sym, ap, ◌∙◌, subst, arith}
+use Rattle.std.proofs.Common.{◌≡◌, ◌-◌, false, List, length, replicate, Decides, sym, ◌∙◌, subst, arith}
 use Rattle.std.proofs.lemmas.List.{length-take-le}
 use Rattle.grammar.specs.Sound.{Productive}
 use Rattle.solver.specs.declared.rule.Rule.{Rule}
@@ -11,8 +11,8 @@ use Rattle.table.proofs.Drafting.{numbers, n_is}
 use Rattle.table.proofs.Marking.{front_mark}
 use Rattle.table.proofs.sound.productive_marks.Goals as goal
 
-pub slice-bounds-marks-end : goal.slice-bounds-marks-end
-slice-bounds-marks-end c = omega (arith, n_is c.args.draft.now c.requires, (numbers c.args.draft.now c.requires).n_high)
+pub slice_bounds-marks-end : goal.slice_bounds-marks-end
+slice_bounds-marks-end c = omega (arith, n_is c.args.draft.now c.requires, (numbers c.args.draft.now c.requires).n_high)
 
 pub returns : goal.returns
 returns c =

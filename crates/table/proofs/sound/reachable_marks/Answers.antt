@@ -1,4 +1,4 @@
-use Rattle.std.proofs.Common.{List, sym, subst}
+use Rattle.std.proofs.Common.{List, subst}
 use Rattle.solver.specs.declared.rule.Rule.{Rule}
 use Rattle.items.specs.Reaching.{Reaches}
 use Rattle.frames.specs.Views.{raw}

@@ -4,10 +4,10 @@ use Rattle.table.proofs.Drafting.{numbers, n_is}
 use Rattle.table.proofs.Marking.{productive_answers}
 use Rattle.table.proofs.sound.unproductive.Goals as goal
 
-pub first-unmarked-requires : goal.first-unmarked-requires
-first-unmarked-requires c = omega (arith, n_is c.args.draft.now c.requires, (numbers c.args.draft.now c.requires).n_high)
+pub first_unmarked-requires : goal.first_unmarked-requires
+first_unmarked-requires c = omega (arith, n_is c.args.draft.now c.requires, (numbers c.args.draft.now c.requires).n_high)
 
 pub returns : goal.returns
 returns c =
-    productive_answers (raw c.args.draft.now.frames) c.productive-marks.result c.args.draft.now.header.n (n_is c.args.draft.now c.requires)
-    c.productive-marks.ensures c.first-unmarked.result c.first-unmarked.ensures
+    productive_answers (raw c.args.draft.now.frames) c.productive_marks.result c.args.draft.now.header.n (n_is c.args.draft.now c.requires)
+    c.productive_marks.ensures c.first_unmarked.result c.first_unmarked.ensures

@@ -1,5 +1,4 @@
-use Rattle.std.proofs.Common.{◌≡◌, ℕ, ◌+◌, take, sym, refl, ap, ◌∙◌, arith}
-use Rattle.solver.specs.Solution.{rules_of}
+use Rattle.std.proofs.Common.{◌≡◌, ◌+◌, refl, ap, ◌∙◌, arith}
 use Rattle.frames.specs.declared.header.Header.{Header}
 use Rattle.frames.specs.Raw.{header_of}
 use Rattle.frames.specs.Views.{raw}
@@ -17,10 +16,10 @@ returns c =
         formed = c.requires;
         header_is = c.header-header.ensures;
         rules_are =
-            rules_are R 0 c.header-header.result.p c.rules-of-rules.result (omega (arith, c.rules-of-rules.ensures.many, p_is, (ranges R c.requires).p_high))
-            (λ k l. let z : k ≡ 0 + k = omega arith in c.rules-of-rules.ensures.each k l ∙ ap (rule_in R) z)
+            rules_are R 0 c.header-header.result.p c.rules_of-rules.result (omega (arith, c.rules_of-rules.ensures.many, p_is, (ranges R c.requires).p_high))
+            (λ k l. let z : k ≡ 0 + k = omega arith in c.rules_of-rules.ensures.each k l ∙ ap (rule_in R) z)
             ∙ ap (rules_in R 0) p_is;
-        many = c.rules-of-rules.ensures.many;
+        many = c.rules_of-rules.ensures.many;
       };
       same = refl;
     }

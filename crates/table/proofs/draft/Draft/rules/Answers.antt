@@ -4,8 +4,8 @@ use Rattle.frames.specs.Views.{raw}
 use Rattle.table.proofs.Formed.{ranges}
 use Rattle.table.proofs.draft.Draft.rules.Goals as goal
 
-pub slice-bounds-result-end : goal.slice-bounds-result-end
-slice-bounds-result-end c =
+pub slice_bounds-result-end : goal.slice_bounds-result-end
+slice_bounds-result-end c =
     omega (arith, ap (λ (h : Header). h.p) c.requires.header_is, (ranges (raw c.args.self.now.frames) c.requires.formed).p_high)
 
 pub returns : goal.returns

@@ -1,8 +1,7 @@
 use Rattle.std.proofs.Common.{sym, subst}
-use Rattle.frames.specs.Raw.{Raw}
 use Rattle.table.specs.Rows.{AcceptedFile}
 use Rattle.table.proofs.Verdicts.{ok_accepts}
 use Rattle.table.proofs.passed.making.checked.Goals as goal
 
-pub invariant-of-result : goal.invariant-of-result
-invariant-of-result c = (∣ subst AcceptedFile (sym c.new.ensures) ((ok_accepts _).0 c.requires) ∣₁, tt)
+pub invariant_of-result : goal.invariant_of-result
+invariant_of-result c = record { good = ∣ subst AcceptedFile (sym c.new.ensures) ((ok_accepts _).0 c.requires) ∣₁ }

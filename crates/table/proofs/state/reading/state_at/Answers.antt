@@ -1,6 +1,5 @@
-use Rattle.std.proofs.Common.{◌≡◌, ℕ, List, sym, subst}
-use Rattle.frames.specs.declared.header.Section as section
-use Rattle.frames.specs.Raw.{header_of, section_of}
+use Rattle.std.proofs.Common.{ℕ, List, sym, subst}
+use Rattle.frames.specs.Raw.{header_of}
 use Rattle.frames.specs.Views.{raw}
 use Rattle.lookahead.specs.Entries.{AllWords}
 use Rattle.lookahead.specs.Stored.{StandsFor}
@@ -15,7 +14,7 @@ returns g c =
     let formed = c.requires.draft.drafted.formed in
     let words = state_words R formed c.args.q c.requires.within in
     record {
-      places = kernel_set R formed c.args.q c.requires.within c.of-pairs.result c.section.result.now c.section.ensures c.of-pairs.ensures;
-      words = subst (λ (es : List ℕ). StandsFor (header_of R) c.words-of.result es) c.section-2.ensures
-          (c.words-of.ensures.stands (header_of R) c.requires.draft.cut_is (ranges R formed).t_high (subst (AllWords (header_of R)) (sym c.section-2.ensures) words));
+      places = kernel_set R formed c.args.q c.requires.within c.of_pairs.result c.section.result.now c.section.ensures c.of_pairs.ensures;
+      words = subst (λ (es : List ℕ). StandsFor (header_of R) c.words_of.result es) c.section-2.ensures
+          (c.words_of.ensures.stands (header_of R) c.requires.draft.cut_is (ranges R formed).t_high (subst (AllWords (header_of R)) (sym c.section-2.ensures) words));
     }
