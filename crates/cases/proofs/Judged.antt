@@ -19,7 +19,7 @@ use Rattle.lookahead.specs.Entries.{Choice, choices_in}
 use Rattle.table.specs.Contents.{grammar_of, table_of, Successor, successors_in, successor_in, same_word, choice_in}
 use Rattle.table.specs.Drafts.{Formed}
 use Rattle.table.specs.Fitted.{fitting_state}
-use Rattle.table.specs.Rows.{starts, frames, productive, reachable, found, one_fits, chosen, Good, SuccessorsOnce, StateGood, ChoicesOnce, ChoicesGood}
+use Rattle.table.specs.Rows.{starts, frames, productive, reachable, Good, SuccessorsOnce, StateGood, ChoicesOnce, ChoicesGood}
 use Rattle.table.proofs.Fitting.{state_fits, placed}
 use Rattle.table.proofs.Formed.{symbol_good}
 use Rattle.table.proofs.Sections.{successor_entry, choice_entry, found_successor}

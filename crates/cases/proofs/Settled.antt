@@ -8,7 +8,7 @@ use Rattle.table.specs.declared.refused.CheckRefusal.{CheckRefusal}
 use Rattle.table.specs.declared.refused.CheckRefusal.TheVariants.{Undefined, TwoFit}
 use Rattle.table.specs.Contents.{grammar_of}
 use Rattle.table.specs.Drafts.{Formed}
-use Rattle.table.specs.Rows.{defined, distinct, found, one_fits, chosen, state_rows, Good, VerdictBy, Verdict}
+use Rattle.table.specs.Rows.{defined, one_fits, chosen, state_rows, Good, VerdictBy, Verdict}
 use Rattle.table.proofs.Formed.{well_formed}
 use Rattle.cases.proofs.Searches.{every, every_at, up_to, low_in, among}
 use Rattle.cases.proofs.Beginnings.{Sets, rounds, is_solved, rounds_derived, first_with_is, word_productive}

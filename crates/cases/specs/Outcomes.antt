@@ -1,5 +1,5 @@
 -- What the examples come to.
-use Rattle.std.specs.Prelude.{ℕ, List, [], ◌∷◌}
+use Rattle.std.specs.Prelude.{ℕ, [], ◌∷◌}
 use Rattle.std.specs.declared.convert.Infallible.{Infallible}
 use Rattle.source.specs.declared.draining.Stop.TheVariants.{End, Fault}
 use Rattle.source.specs.declared.fault.LayerFault.{LayerFault}
