@@ -1,7 +1,7 @@
 -- The frames of a text by the definition and by the relation. Lines that are frames are read one after the other, so what the
 -- relation says of a text is what the definition gives for it; and what the definition gives, line by line, the relation says.
 use Rattle.std.proofs.Common.{◌≡◌, ℕ, suc, ◌+◌, ◌%◌, ◌<◌, Bool, true, false, cond, eqb, leb, List, [], ◌∷◌, ◌++◌, map, length, Ok, Err, Result, sym, refl, ap, ◌∙◌, subst, append_assoc, arith}
-use Rattle.std.specs.List.{AllByRecursion as All}
+use Rattle.std.specs.List.{AllByRecursion}
 use Rattle.std.proofs.lemmas.Bool.{and_from, and_parts, both_ways, eq-eqb, eqb-true, le-leb, leb-true}
 use Rattle.load.specs.Digits.{is_digit, all_digits, bytes_of}
 use Rattle.load.specs.Frames.{Frame, text_of, Framed, Broken, Reads, TextLaw}
@@ -10,11 +10,11 @@ use Rattle.load.specs.Lines.{Line, closed, unclosed, lines, is_frame, before, fr
 use Rattle.load.proofs.Turns.{Begins, begins, frame_line, some_line, turn, stop}
 
 -- a frame by the test and in words
-all_pass : (ws : List ℕ) → All (λ b. is_digit b ≡ true) ws → all_digits ws ≡ true
+all_pass : (ws : List ℕ) → AllByRecursion (λ b. is_digit b ≡ true) ws → all_digits ws ≡ true
 all_pass [] h = refl
 all_pass (b ∷ ws) h = and_from (is_digit b) (all_digits ws) h.0 (all_pass ws h.1)
 
-each_passes : (ws : List ℕ) → all_digits ws ≡ true → All (λ b. is_digit b ≡ true) ws
+each_passes : (ws : List ℕ) → all_digits ws ≡ true → AllByRecursion (λ b. is_digit b ≡ true) ws
 each_passes [] e = tt
 each_passes (b ∷ ws) e = let parts = and_parts (is_digit b) (all_digits ws) e in (parts.0, each_passes ws parts.1)
 
@@ -33,12 +33,12 @@ module _ (ws : List ℕ) where
       record { some = leb-true _ _ bounds.0; few = leb-true _ _ bounds.1; even = eqb-true _ _ sizes.1; digits = each_passes ws parts.1 }
 
 -- the definition gives what the relation says
-framed_is : (n : ℕ) (ls : List (List ℕ)) → All Frame ls → frames_of n (lines (text_of ls)) ≡ Ok (map bytes_of ls)
+framed_is : (n : ℕ) (ls : List (List ℕ)) → AllByRecursion Frame ls → frames_of n (lines (text_of ls)) ≡ Ok (map bytes_of ls)
 framed_is n [] each = refl
 framed_is n (l ∷ ls) each =
     turn n l (text_of ls) (frame_test l each.0) ∙ ap (before (bytes_of l)) (framed_is (n + 1) ls each.1)
 
-broken_is : (n : ℕ) (ls : List (List ℕ)) (rest : List ℕ) → All Frame ls → 0 < length rest → Unframed rest → frames_of n (lines (text_of ls ++ rest)) ≡ Err (length ls + n)
+broken_is : (n : ℕ) (ls : List (List ℕ)) (rest : List ℕ) → AllByRecursion Frame ls → 0 < length rest → Unframed rest → frames_of n (lines (text_of ls ++ rest)) ≡ Err (length ls + n)
 broken_is n [] rest each some none = stop n rest some none ∙ ap (λ k. Err k) (let e : n ≡ 0 + n = omega arith in e)
 broken_is n (l ∷ ls) rest each some none =
     let e : length ls + (n + 1) ≡ suc (length ls) + n = omega arith in

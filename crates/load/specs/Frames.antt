@@ -1,7 +1,7 @@
 -- A text and its frames as a relation: a text of frames is its lines, each a frame and closed by byte 0A; any other text begins with
 -- some such lines, and no frame follows them.
 use Rattle.std.specs.Prelude.{◌≡◌, ℕ, ◌+◌, ◌%◌, ◌<◌, ◌≤◌, true, List, [], ◌∷◌, ◌++◌, map, length, Ok, Err, Result, ◌≢◌}
-use Rattle.std.specs.List.{AllByRecursion as All}
+use Rattle.std.specs.List.{AllByRecursion}
 use Rattle.load.specs.Digits.{is_digit, bytes_of}
 
 -- a line that is a frame
@@ -9,7 +9,7 @@ pub record Frame (line : List ℕ) : Type 0 where
   pub some : 2 ≤ length line
   pub few : length line ≤ 8192
   pub even : length line % 2 ≡ 0
-  pub digits : All (λ b. is_digit b ≡ true) line
+  pub digits : AllByRecursion (λ b. is_digit b ≡ true) line
 
 -- the text of these lines: each is closed by byte 0A
 abbrev pub text_of : List (List ℕ) → List ℕ
@@ -20,7 +20,7 @@ text_of (l ∷ ls) = l ++ 10 ∷ text_of ls
 pub record Framed (text : List ℕ) (frames : List (List ℕ)) : Type 0 where
   pub lines : List (List ℕ)
   pub whole : text ≡ text_of lines
-  pub each : All Frame lines
+  pub each : AllByRecursion Frame lines
   pub bytes : frames ≡ map bytes_of lines
 
 -- the lines before line n are frames; line n is there, and is no frame that is closed
@@ -28,7 +28,7 @@ pub record Broken (text : List ℕ) (n : ℕ) : Type 0 where
   pub lines : List (List ℕ)
   pub rest : List ℕ
   pub whole : text ≡ text_of lines ++ rest
-  pub each : All Frame lines
+  pub each : AllByRecursion Frame lines
   pub number : n ≡ length lines + 1
   pub more : 0 < length rest
   pub none : (line behind : List ℕ) → Frame line → rest ≢ line ++ 10 ∷ behind
