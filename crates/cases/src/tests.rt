@@ -45,6 +45,20 @@ fn a_used_quota_keeps_its_place(rt: HostRuntime) -> Result<(), Fail> {
 }
 
 #[test]
+fn a_quota_over_a_list_has_its_number(rt: HostRuntime) -> Result<(), Fail> {
+    let mut list = StoredList::new();
+    list.open(&[2, 1])?;
+    let mut source = Quota::new(list, 0);
+    let fault = Faulted {
+        fault: LayerFault::QuotaUsed,
+        place: Place::One(1),
+    };
+    assert_eq!(rt; fault.fault.number(), 22);
+    assert_eq!(rt; source.next(), Err(fault));
+    Ok(())
+}
+
+#[test]
 fn a_stored_list_has_at_most_60000_bytes(rt: HostRuntime) -> Result<(), Fail> {
     let bytes = [7u8; 60_001];
     let mut list = StoredList::new();

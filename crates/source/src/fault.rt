@@ -52,8 +52,8 @@ impl LayerFault<Infallible> {
         ensures { result ≡ layer_number (λ _. 0) self.now }
     {
         match self {
-            LayerFault::Under(never) => match *never {},
-            LayerFault::QuotaUsed => 22,
+            Self::Under(never) => match *never {},
+            Self::QuotaUsed => 22,
         }
     }
 }
