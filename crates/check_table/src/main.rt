@@ -1,5 +1,6 @@
 //! Checks the table file on standard input: prints its numbers, or why it is refused.
 #![tactic(auto)]
+
 ghost use Rattle.std.specs.Prelude.{◌≡◌, length, IfOk, string_bytes};
 ghost use Rattle.load.specs.Loading.{loaded};
 ghost use Rattle.admission.specs.Admitting.{Tells};

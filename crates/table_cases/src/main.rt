@@ -3,6 +3,7 @@
 //!
 //! A table file comes behind a line with the decimal number of its bytes.
 #![tactic(auto)]
+
 use admission::{MOST_FRAMES, STORE_BYTES, admit};
 use std::io::Read;
 
