@@ -51,11 +51,11 @@ if_some math.none a p e = let z : ◌≡◌ {A = ℕ} 0 1 = cc in absurd (omega 
 if_some (math.some s) a p e = ((s, refl), e)
 
 -- what a rule fits by: with no successor by its left side there is no state, and with one it is the state after its right side
-pub behind_none : (o : math.Option ℕ) (a : Option ℕ) → answered o ≡ None → None ≡ if_successor o a
+pub behind_none : (o : math.Option ℕ) (a : Option ℕ) → None ≡ answered o → None ≡ if_successor o a
 behind_none math.none a e = refl
 behind_none (math.some s) a e = let z : ◌≡◌ {A = ℕ} 0 1 = cc in absurd (omega arith)
 
-pub behind_some : (o : math.Option ℕ) (a : Option ℕ) (s : ℕ) → answered o ≡ Some s → a ≡ if_successor o a
+pub behind_some : (o : math.Option ℕ) (a : Option ℕ) (s : ℕ) → Some s ≡ answered o → a ≡ if_successor o a
 behind_some math.none a s e = let z : ◌≡◌ {A = ℕ} 0 1 = cc in absurd (omega arith)
 behind_some (math.some q) a s e = refl
 

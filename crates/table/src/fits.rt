@@ -6,7 +6,7 @@ ghost use Rattle.frames.specs.Views.{raw};
 ghost use Rattle.table.specs.Contents.{grammar_of, table_of};
 ghost use Rattle.table.specs.Fitted.{fitting_state, Fitting, Fitted, Share, MeetsLower, own_rules, ChosenAs};
 ghost use Rattle.table.specs.Rows.{ChoicesGood};
-ghost use Rattle.table.specs.States.{CutDraft};
+ghost use Rattle.table.specs.States.{CutDraft, answered};
 
 use crate::draft::Draft;
 use crate::lookup::{after, successor_of};
@@ -15,11 +15,19 @@ use lookahead::{chosen, words_of};
 use solver::Value;
 use words::Words;
 
+// The successor by a rule's left side.
+fn behind_left(frames: Frames<'_>, q: u8, r: u8) -> Option<u8>
+    ensures { result ≡ answered ((table_of (raw frames.entry)).next q (left_of (raw frames.entry) r)) }
+{
+    successor_of(frames, q, frames.left(r))
+}
+
 // The state whose words a rule fits: the one after its right side, if there is a successor by its left side.
+#[tactic(auto, using(crate::proofs::Fitting::behind_none, crate::proofs::Fitting::behind_some))]
 fn state_behind(frames: Frames<'_>, q: u8, r: u8) -> Option<u8>
     ensures { result ≡ fitting_state (raw frames.entry) q r }
 {
-    match successor_of(frames, q, frames.left(r)) {
+    match behind_left(frames, q, r) {
         None => None,
         Some(_) => after(frames, q, frames.right(r)),
     }
