@@ -13,6 +13,13 @@ pub const START: u8 = 32;
 /// The right side of the start rule: the start symbol and the end mark.
 pub static START_RIGHT: [u8; 2] = [START, END_MARK];
 
+/// A word of at most two symbols: 0 stands where there is none.
+#[derive(Clone, Copy, PartialEq, Eq, Debug)]
+pub struct Word {
+    pub first: u8,
+    pub second: u8,
+}
+
 /// Which nonterminal a symbol is, counted from the start symbol, which is 0. Tokens and the end mark are none.
 pub fn nonterminal_index(symbol: u8) -> Option<usize>
     ensures { result ≡ index_of symbol }
