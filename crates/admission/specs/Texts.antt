@@ -1,15 +1,19 @@
 -- The line that is printed of a table.
-use Rattle.std.specs.Prelude.{ℕ, List, ◌++◌, codes, decimal}
+use Rattle.std.specs.Prelude.{ℕ, List, ◌++◌, Ok, Err, Result, codes, decimal, slice_index}
 use Rattle.refusal.specs.Refusal.{Refusal}
 use Rattle.load.specs.Refusals.{refusal_of}
-use Rattle.load.specs.declared.fault.LoadRefusal.{LoadRefusal}
+use Rattle.load.specs.Refusals as load
 use Rattle.load.specs.declared.loading.Loaded.{Loaded}
 use Rattle.frames.specs.declared.header.Header.{Header}
 use Rattle.table.specs.Refusals.{refused}
-use Rattle.table.specs.declared.refused.CheckRefusal.{CheckRefusal}
-use Rattle.admission.specs.Reasons.{value_of, load_reason, check_reason}
-use Rattle.admission.specs.declared.outcome.Admission.{Admission}
-use Rattle.admission.specs.declared.outcome.Admission.TheVariants.{Accepted, NotLoaded, NotAccepted}
+use Rattle.table.specs.Refusals as table
+use Rattle.admission.specs.declared.outcome.Accepted.{Accepted}
+use Rattle.admission.specs.declared.outcome.Refused.{Refused}
+use Rattle.admission.specs.declared.outcome.Refused.TheVariants.{NotLoaded, NotAccepted}
+
+-- the number that is returned with a refusal, 0 where there is none
+abbrev pub value_of : Refusal → ℕ
+value_of e = slice_index e.returned 0
 
 -- the numbers of a table, each behind a blank: k=K t=T n=N p=P s=S
 abbrev pub header_text : Header → List ℕ
@@ -22,19 +26,15 @@ accepted_text h l =
     codes "accepted" ++ (header_text h ++ (codes " frames=" ++ (decimal l.frames ++ (codes " bytes=" ++ decimal l.bytes))))
 
 -- refused NUMBER VALUE: reason
-abbrev pub refused_text : Refusal → List ℕ → List ℕ
-refused_text e reason = codes "refused " ++ (decimal e.number ++ (codes " " ++ (decimal (value_of e) ++ (codes ": " ++ reason))))
+abbrev pub refusal_text : ℕ → ℕ → List ℕ → List ℕ
+refusal_text number value reason = codes "refused " ++ (decimal number ++ (codes " " ++ (decimal value ++ (codes ": " ++ reason))))
 
--- the line of a text that is not loaded
-abbrev pub load_text : LoadRefusal → List ℕ
-load_text e = refused_text (refusal_of e) (load_reason e)
-
--- the line of a table that the check refuses
-abbrev pub check_text : CheckRefusal → List ℕ
-check_text e = refused_text (refused e) (check_reason e)
+-- the line of a text that is not loaded, or of a table that the check refuses
+abbrev pub refused_text : Refused → List ℕ
+refused_text (NotLoaded e) = refusal_text (refusal_of e).number (value_of (refusal_of e)) (load.reason_of e)
+refused_text (NotAccepted e) = refusal_text (refused e).number (value_of (refused e)) (table.reason_of e)
 
 -- all that is printed of a table
-abbrev pub admission_text : Admission → List ℕ
-admission_text (Accepted h l) = accepted_text h l
-admission_text (NotLoaded e) = load_text e
-admission_text (NotAccepted e) = check_text e
+abbrev pub outcome_text : Result Accepted Refused → List ℕ
+outcome_text (Ok a) = accepted_text a.header a.loaded
+outcome_text (Err e) = refused_text e

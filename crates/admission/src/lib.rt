@@ -3,10 +3,9 @@
 
 mod admitting;
 mod outcome;
-mod reason;
 
 pub use admitting::admit;
-pub use outcome::Admission;
+pub use outcome::{Accepted, Line, Refused};
 
 /// The bytes of a store that has room for every text.
 pub const STORE_BYTES: usize = 1_048_576;

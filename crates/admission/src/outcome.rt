@@ -1,80 +1,124 @@
-//! What came of a table, as a line of text.
-ghost use Rattle.std.specs.Prelude.{◌≡◌, Some};
-ghost use Rattle.std.specs.Fmt.{WritesOnOk};
-ghost use Rattle.admission.specs.Texts.{admission_text, header_text, accepted_text, load_text, check_text};
+//! What comes of a table: it is accepted, or refused.
+ghost use Rattle.std.specs.Prelude.{◌≡◌, Some, option_map};
+ghost use Rattle.std.specs.Fmt.{DisplaysOnOk};
+ghost use Rattle.load.specs.Refusals.{refusal_of};
+ghost use Rattle.table.specs.Refusals.{refused};
+ghost use Rattle.admission.specs.Texts.{value_of, refusal_text, accepted_text, refused_text, outcome_text};
+ghost use Rattle.admission.specs.declared.outcome.Refused.TheVariants.{NotLoaded, NotAccepted};
 
-use crate::reason::{check_value, load_value, reason_not_accepted, reason_not_loaded};
 use frames::Header;
 use load::{LoadRefusal, Loaded};
 use refusal::Numbered;
 use std::fmt;
 use table::CheckRefusal;
 
-/// A table passed, with its numbers and those of its frames and bytes; or its text was not loaded, or the check refused
-/// it.
+/// A table that passed: its numbers, and those of its frames and bytes.
 #[derive(Clone, Copy)]
-pub enum Admission {
-    Accepted { header: Header, loaded: Loaded },
+pub struct Accepted {
+    pub header: Header,
+    pub loaded: Loaded,
+}
+
+/// Why a table did not pass: its text was not loaded, or the check refused it.
+#[derive(Clone, Copy, PartialEq, Eq, Debug)]
+pub enum Refused {
     NotLoaded(LoadRefusal),
     NotAccepted(CheckRefusal),
 }
 
-/// The numbers of a table, each behind a blank.
+/// What is printed of a table, as a line without its end.
 #[derive(Clone, Copy)]
-struct TableNumbers {
-    header: Header,
+pub struct Line {
+    pub outcome: Result<Accepted, Refused>,
 }
 
-impl fmt::Display for TableNumbers {
-    ghost output = { λ numbers. Some (header_text numbers.header) };
+impl From<LoadRefusal> for Refused {
+    ghost from_gives = { λ e r. r ≡ NotLoaded e };
 
-    fn fmt<W: fmt::Write>(&self, f: &mut fmt::Formatter<W>) -> fmt::Result {
-        let Header { k, t, n, p, s } = self.header;
-        write!(f, " k={k} t={t} n={n} p={p} s={s}")
+    fn from(refusal: LoadRefusal) -> Refused {
+        Refused::NotLoaded(refusal)
     }
 }
 
-fn write_accepted<W: fmt::Write>(
-    header: Header,
-    loaded: Loaded,
+impl From<CheckRefusal> for Refused {
+    ghost from_gives = { λ e r. r ≡ NotAccepted e };
+
+    fn from(refusal: CheckRefusal) -> Refused {
+        Refused::NotAccepted(refusal)
+    }
+}
+
+/// The line that is no frame; the other refusals have no number.
+// No `Option`: every refusal is printed with a number, and the definition gives 0 for none.
+fn line_of(refusal: LoadRefusal) -> usize
+    ensures { result ≡ value_of (refusal_of refusal) }
+{
+    match refusal {
+        LoadRefusal::NotAFrame(line) => line,
+        LoadRefusal::TextTooLong | LoadRefusal::NoRoom => 0,
+    }
+}
+
+/// The lowest frame, nonterminal or state that the cause applies to.
+fn lowest_of(refusal: CheckRefusal) -> usize
+    ensures { result ≡ value_of (refused refusal) }
+{
+    match refusal {
+        CheckRefusal::Frame(frame) => frame,
+        CheckRefusal::Unproductive(nonterminal) | CheckRefusal::Unreachable(nonterminal) => {
+            nonterminal as usize
+        }
+        CheckRefusal::Undefined(state)
+        | CheckRefusal::EqualToLower(state)
+        | CheckRefusal::NotFound(state)
+        | CheckRefusal::TwoFit(state)
+        | CheckRefusal::Mischosen(state) => state as usize,
+    }
+}
+
+/// Writes the number of a refusal, the value that is returned with it, and its reason.
+fn write_refusal<E: Numbered + fmt::Display, W: fmt::Write>(
+    refusal: &E,
+    value: usize,
     f: &mut fmt::Formatter<W>,
 ) -> fmt::Result
-    ensures { WritesOnOk W.Write.write_str_gives f.old result (accepted_text header loaded) f.new }
-{
-    let numbers = TableNumbers { header };
-    let Loaded { frames, bytes } = loaded;
-    write!(f, "accepted{numbers} frames={frames} bytes={bytes}")
-}
-
-fn write_not_loaded<W: fmt::Write>(refusal: LoadRefusal, f: &mut fmt::Formatter<W>) -> fmt::Result
-    ensures { WritesOnOk W.Write.write_str_gives f.old result (load_text refusal) f.new }
+    ensures { DisplaysOnOk W.write_str_gives f.old result (option_map (λ reason. refusal_text (E.number refusal.now) value reason) (E.output refusal.now)) f.new }
 {
     let number = refusal.number();
-    let value = load_value(refusal);
-    let reason = reason_not_loaded(refusal);
-    write!(f, "refused {number} {value}: {reason}")
+    write!(f, "refused {number} {value}: {refusal}")
 }
 
-fn write_not_accepted<W: fmt::Write>(
-    refusal: CheckRefusal,
-    f: &mut fmt::Formatter<W>,
-) -> fmt::Result
-    ensures { WritesOnOk W.Write.write_str_gives f.old result (check_text refusal) f.new }
-{
-    let number = refusal.number();
-    let value = check_value(refusal);
-    let reason = reason_not_accepted(refusal);
-    write!(f, "refused {number} {value}: {reason}")
-}
-
-impl fmt::Display for Admission {
-    ghost output = { λ a. Some (admission_text a) };
+impl fmt::Display for Accepted {
+    ghost output = { λ a. Some (accepted_text a.header a.loaded) };
 
     fn fmt<W: fmt::Write>(&self, f: &mut fmt::Formatter<W>) -> fmt::Result {
-        match *self {
-            Admission::Accepted { header, loaded } => write_accepted(header, loaded, f),
-            Admission::NotLoaded(refusal) => write_not_loaded(refusal, f),
-            Admission::NotAccepted(refusal) => write_not_accepted(refusal, f),
+        let Header { k, t, n, p, s } = self.header;
+        let Loaded { frames, bytes } = self.loaded;
+        write!(
+            f,
+            "accepted k={k} t={t} n={n} p={p} s={s} frames={frames} bytes={bytes}"
+        )
+    }
+}
+
+impl fmt::Display for Refused {
+    ghost output = { λ e. Some (refused_text e) };
+
+    fn fmt<W: fmt::Write>(&self, f: &mut fmt::Formatter<W>) -> fmt::Result {
+        match self {
+            Refused::NotLoaded(refusal) => write_refusal(refusal, line_of(*refusal), f),
+            Refused::NotAccepted(refusal) => write_refusal(refusal, lowest_of(*refusal), f),
+        }
+    }
+}
+
+impl fmt::Display for Line {
+    ghost output = { λ line. Some (outcome_text line.outcome) };
+
+    fn fmt<W: fmt::Write>(&self, f: &mut fmt::Formatter<W>) -> fmt::Result {
+        match &self.outcome {
+            Ok(accepted) => accepted.fmt(f),
+            Err(refused) => refused.fmt(f),
         }
     }
 }

@@ -1,5 +1,5 @@
 //! The words of a sheet that have a kind of their own.
-ghost use Rattle.std.specs.Prelude.{◌≡◌, [], ◌∷◌};
+ghost use Rattle.std.specs.Prelude.{◌≡◌, slice_index};
 ghost use Rattle.byte_classes.specs.Keywords.{keyword_of};
 
 /// The words zone, curve, set, from, to and off.
@@ -13,59 +13,33 @@ pub enum Keyword {
     Off,
 }
 
-fn keyword_of_two(a: u8, b: u8) -> Option<Keyword>
-    ensures { result ≡ keyword_of (a ∷ b ∷ []) }
+/// The letter at an index as the character that it stands for; behind the last, character 0.
+fn letter_at(letters: &[u8], index: usize) -> char
+    ensures { result ≡ slice_index letters.now index }
 {
-    match (char::from(a), char::from(b)) {
-        ('t', 'o') => Some(Keyword::To),
-        _ => None,
-    }
-}
-
-fn keyword_of_three(a: u8, b: u8, c: u8) -> Option<Keyword>
-    ensures { result ≡ keyword_of (a ∷ b ∷ c ∷ []) }
-{
-    match (char::from(a), char::from(b), char::from(c)) {
-        ('s', 'e', 't') => Some(Keyword::Set),
-        ('o', 'f', 'f') => Some(Keyword::Off),
-        _ => None,
-    }
-}
-
-fn keyword_of_four(a: u8, b: u8, c: u8, d: u8) -> Option<Keyword>
-    ensures { result ≡ keyword_of (a ∷ b ∷ c ∷ d ∷ []) }
-{
-    match (char::from(a), char::from(b), char::from(c), char::from(d)) {
-        ('z', 'o', 'n', 'e') => Some(Keyword::Zone),
-        ('f', 'r', 'o', 'm') => Some(Keyword::From),
-        _ => None,
-    }
-}
-
-fn keyword_of_five(a: u8, b: u8, c: u8, d: u8, e: u8) -> Option<Keyword>
-    ensures { result ≡ keyword_of (a ∷ b ∷ c ∷ d ∷ e ∷ []) }
-{
-    match (
-        char::from(a),
-        char::from(b),
-        char::from(c),
-        char::from(d),
-        char::from(e),
-    ) {
-        ('c', 'u', 'r', 'v', 'e') => Some(Keyword::Curve),
-        _ => None,
-    }
+    char::from(letters.get(index).copied().unwrap_or(0))
 }
 
 /// Which of the six words these letters spell, if any.
+#[tactic(auto, using(crate::proofs::Letters::long_words))]
 pub fn keyword_of(letters: &[u8]) -> Option<Keyword>
     ensures { result ≡ keyword_of letters.now }
 {
-    match letters {
-        [a, b] => keyword_of_two(*a, *b),
-        [a, b, c] => keyword_of_three(*a, *b, *c),
-        [a, b, c, d] => keyword_of_four(*a, *b, *c, *d),
-        [a, b, c, d, e] => keyword_of_five(*a, *b, *c, *d, *e),
+    let letter = |index: usize| letter_at(letters, index);
+    match (
+        letters.len(),
+        letter(0),
+        letter(1),
+        letter(2),
+        letter(3),
+        letter(4),
+    ) {
+        (2, 't', 'o', _, _, _) => Some(Keyword::To),
+        (3, 's', 'e', 't', _, _) => Some(Keyword::Set),
+        (3, 'o', 'f', 'f', _, _) => Some(Keyword::Off),
+        (4, 'z', 'o', 'n', 'e', _) => Some(Keyword::Zone),
+        (4, 'f', 'r', 'o', 'm', _) => Some(Keyword::From),
+        (5, 'c', 'u', 'r', 'v', 'e') => Some(Keyword::Curve),
         _ => None,
     }
 }

@@ -70,7 +70,7 @@ cut_both : (k : ℕ) (u v : List ℕ) → take k (take k u ++ take k v) ≡ take
 cut_both k u v = take_join k k (take k u) v (le_refl k) ∙ take_join_left k k u v (le_refl k)
 
 rule_member : (ρs : List Rule) (r : ℕ) (ρ : Rule) → rule_at ρs r ≡ some ρ → Memᴰ ρ ρs
-rule_member [] r ρ e = let z : ◌≡◌ {A = ℕ} 0 1 = cc in absurd (omega arith)
+rule_member [] r ρ e = absurd cc
 rule_member (σ ∷ ρs) zero ρ e = let s : ρ ≡ σ = cc in mathlib.Core.List.Memᴰ.head s
 rule_member (σ ∷ ρs) (suc r) ρ e = mathlib.Core.List.Memᴰ.tail (rule_member ρs r ρ e)
 

@@ -31,8 +31,8 @@ pub told_before : (g : Grammar) (i : Item) (X : ℕ) → before_dot g i ≡ Some
 told_before g i X e = by i.dot (rule_at (augmented g).rules i.rule) refl refl e
   where
     by : (d : ℕ) (o : math.Option Rule) → i.dot ≡ d → rule_at (augmented g).rules i.rule ≡ o → symbol_before d o ≡ Some X → Before g i X
-    by d math.none f h e = let z : ◌≡◌ {A = ℕ} 0 1 = cc in absurd (omega arith)
-    by zero (math.some ρ) f h e = let z : ◌≡◌ {A = ℕ} 0 1 = cc in absurd (omega arith)
+    by d math.none f h e = absurd cc
+    by zero (math.some ρ) f h e = absurd cc
     by (suc d) (math.some ρ) f h e =
         let c = entry→cut ρ.right d X e in
         record { rule = ρ; is_rule = h; front = c.front; back = c.back; right_is = c.whole; dot_is = omega (arith, f, c.long) }
@@ -56,7 +56,7 @@ pub record Ended (A m : ℕ) (ρs : List Rule) (i : Item) : Type 0 where
 
 ends_has : (A m : ℕ) (ρs : List Rule) (r : ℕ) (ρ : Rule) → rule_at ρs r ≡ math.some ρ → ρ.left ≡ A
     → Memᴰ (item (m + r) (length ρ.right)) (ends A m ρs)
-ends_has A m [] r ρ e l = let z : ◌≡◌ {A = ℕ} 0 1 = cc in absurd (omega arith)
+ends_has A m [] r ρ e l = absurd cc
 ends_has A m (σ ∷ ρs) zero ρ e l =
     let s : ρ ≡ σ = cc in
     let n : m + 0 ≡ m = omega arith in

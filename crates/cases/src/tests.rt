@@ -4,7 +4,7 @@ use sheet::{ScanFault, Scanner};
 use source::{Entry, Faulted, LayerFault, Place, Quota, Skip, Source, StoredList, Token, TooLong};
 use std::test::Fail;
 
-fn given(kind: u8, line: u32, column: u32) -> Entry {
+fn given(kind: u8, line: u32, column: u32) -> Entry<Token> {
     Entry::Given(Token {
         kind,
         place: Place::Two(line, column),
@@ -13,8 +13,7 @@ fn given(kind: u8, line: u32, column: u32) -> Entry {
 
 #[test]
 fn a_fault_keeps_its_number_through_layers(rt: HostRuntime) -> Result<(), Fail> {
-    let mut scanner = Scanner::new();
-    scanner.open(b"a # note\n B")?;
+    let scanner = Scanner::open(b"a # note\n B")?;
     let mut source = Quota::new(Skip::new(Skip::new(scanner, 16), 15), 5);
     assert_eq!(rt; source.next()?, given(2, 1, 1));
     let fault = Faulted {
@@ -29,8 +28,7 @@ fn a_fault_keeps_its_number_through_layers(rt: HostRuntime) -> Result<(), Fail> 
 
 #[test]
 fn a_used_quota_keeps_its_place(rt: HostRuntime) -> Result<(), Fail> {
-    let mut scanner = Scanner::new();
-    scanner.open(b"a\nb c d")?;
+    let scanner = Scanner::open(b"a\nb c d")?;
     let mut source = Skip::new(Quota::new(scanner, 3), 15);
     assert_eq!(rt; source.next()?, given(2, 1, 1));
     assert_eq!(rt; source.next()?, given(2, 2, 1));
@@ -46,9 +44,7 @@ fn a_used_quota_keeps_its_place(rt: HostRuntime) -> Result<(), Fail> {
 
 #[test]
 fn a_quota_over_a_list_has_its_number(rt: HostRuntime) -> Result<(), Fail> {
-    let mut list = StoredList::new();
-    list.open(&[2, 1])?;
-    let mut source = Quota::new(list, 0);
+    let mut source = Quota::new(StoredList::open(&[2, 1])?, 0);
     let fault = Faulted {
         fault: LayerFault::QuotaUsed,
         place: Place::One(1),
@@ -61,8 +57,7 @@ fn a_quota_over_a_list_has_its_number(rt: HostRuntime) -> Result<(), Fail> {
 #[test]
 fn a_stored_list_has_at_most_60000_bytes(rt: HostRuntime) -> Result<(), Fail> {
     let bytes = [7u8; 60_001];
-    let mut list = StoredList::new();
-    list.open(&bytes[0..60_000])?;
+    let mut list = StoredList::open(&bytes[..60_000])?;
     let first = Entry::Given(Token {
         kind: 7,
         place: Place::One(1),
@@ -70,7 +65,7 @@ fn a_stored_list_has_at_most_60000_bytes(rt: HostRuntime) -> Result<(), Fail> {
     assert_eq!(rt; list.next()?, first);
     let refused = TooLong { length: 60_001 };
     assert_eq!(rt; refused.number(), 18);
-    assert_eq!(rt; list.open(&bytes), Err(refused));
+    assert_eq!(rt; StoredList::open(&bytes).err(), Some(refused));
     let second = Entry::Given(Token {
         kind: 7,
         place: Place::One(2),
@@ -82,10 +77,10 @@ fn a_stored_list_has_at_most_60000_bytes(rt: HostRuntime) -> Result<(), Fail> {
 #[test]
 fn a_sheet_has_at_most_60000_bytes(rt: HostRuntime) -> Result<(), Fail> {
     let bytes = [b' '; 60_001];
-    let mut scanner = Scanner::new();
-    assert_eq!(rt; scanner.open(&bytes), Err(TooLong { length: 60_001 }));
-    assert_eq!(rt; scanner.next()?, Entry::End(Place::Two(1, 1)));
-    scanner.open(&bytes[0..60_000])?;
+    let refused = TooLong { length: 60_001 };
+    assert_eq!(rt; Scanner::open(&bytes).err(), Some(refused));
+    assert_eq!(rt; Scanner::new().next()?, Entry::End(Place::Two(1, 1)));
+    let mut scanner = Scanner::open(&bytes[..60_000])?;
     let end = Entry::End(Place::Two(1, 60_001));
     assert_eq!(rt; scanner.next()?, end);
     assert_eq!(rt; scanner.next()?, end);

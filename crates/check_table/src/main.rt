@@ -5,7 +5,7 @@ ghost use Rattle.std.specs.Prelude.{◌≡◌, length, IfOk, string_bytes};
 ghost use Rattle.load.specs.Loading.{loaded};
 ghost use Rattle.admission.specs.Admitting.{Tells};
 
-use admission::{MOST_FRAMES, STORE_BYTES, admit};
+use admission::{Line, MOST_FRAMES, STORE_BYTES, admit};
 use std::alloc::{AllocError, Global};
 use std::io::Read;
 
@@ -18,19 +18,17 @@ fn line_of(
 ) -> Result<String, AllocError>
     ensures { IfOk result (λ line. Tells (loaded (length store.old) (length starts.old) text.now) store.new starts.new (string_bytes line)) }
 {
-    let admission = admit(text, store, starts);
-    format!(in heap; "{admission}\n")
+    let line = Line {
+        outcome: admit(text, store, starts),
+    };
+    format!(in heap; "{line}\n")
 }
 
-fn run(rt: &HostRuntime) -> anyhow::Result<()> {
+fn main(rt: HostRuntime) -> anyhow::Result<()> {
     let mut text = Vec::new(rt.alloc());
     rt.stdin().read_to_end(&mut text)?;
     let mut store = vec![in rt.alloc(); 0u8; STORE_BYTES]?;
     let mut starts = vec![in rt.alloc(); 0usize; MOST_FRAMES]?;
     rt.print(line_of(rt.alloc(), &text, &mut store, &mut starts)?)?;
     Ok(())
-}
-
-fn main(rt: HostRuntime) -> anyhow::Result<()> {
-    run(&rt)
 }

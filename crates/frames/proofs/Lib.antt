@@ -1,4 +1,3 @@
-pub mod Parts
 pub mod Orders
 pub mod Turns
 pub mod Ends

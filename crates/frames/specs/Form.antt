@@ -68,6 +68,14 @@ pair_good R Choices a b = false
 abbrev pub choice_good : Header → ℕ → ℕ → ℕ → ℕ → Bool
 choice_good h A a b r = is_nonterminal h A && (is_word h.k h (word_of a b) && nat_lt r h.p)
 
+-- An entry of a section, by its bytes.
+abbrev pub entry_good : Raw → Section → List ℕ → Bool
+entry_good R Choices (A ∷ a ∷ b ∷ r ∷ []) = choice_good (header_of R) A a b r
+entry_good R Kernel (a ∷ b ∷ []) = pair_good R Kernel a b
+entry_good R Words (a ∷ b ∷ []) = pair_good R Words a b
+entry_good R Successors (a ∷ b ∷ []) = pair_good R Successors a b
+entry_good R c es = false
+
 -- Entries of two bytes that are good and rise, behind an entry.
 abbrev pub pairs_good : Raw → Section → List ℕ → List ℕ → Bool
 pairs_good R c prev [] = true
@@ -82,6 +90,20 @@ choices_good h prev (A ∷ a ∷ []) = false
 choices_good h prev (A ∷ a ∷ b ∷ []) = false
 choices_good h prev (A ∷ a ∷ b ∷ r ∷ rest) =
     (below prev (A ∷ a ∷ b ∷ r ∷ []) && choice_good h A a b r) && choices_good h (A ∷ a ∷ b ∷ r ∷ []) rest
+
+-- How many bytes an entry of a section has.
+abbrev pub width : Section → ℕ
+width Kernel = 2
+width Words = 2
+width Successors = 2
+width Choices = 4
+
+-- Entries of a section that are good and rise, behind an entry.
+abbrev pub entries_rise : Raw → Section → List ℕ → List ℕ → Bool
+entries_rise R Kernel prev es = pairs_good R Kernel prev es
+entries_rise R Words prev es = pairs_good R Words prev es
+entries_rise R Successors prev es = pairs_good R Successors prev es
+entries_rise R Choices prev es = choices_good (header_of R) prev es
 
 -- The entries of a section; there is some place and some word, while successors and choices may have no entry.
 abbrev pub entries_good : Raw → Section → List ℕ → Bool

@@ -1,249 +1,221 @@
 //! Whether the frames of a table have the form that they should.
-ghost use Rattle.std.specs.Prelude.{◌≡◌, ◌+◌, ◌*◌, ◌<◌, true, false, ◌&&◌, [], ◌∷◌, length, slice_index};
-ghost use Rattle.frames.specs.Raw.{frame, header_of};
-ghost use Rattle.frames.specs.Form.{is_token, is_nonterminal, is_symbol, are_symbols, is_word, word_of, below, header_good, rule_good, is_kernel_place, pair_good, choice_good, pairs_good, choices_good, entries_good, section_good, section_at, tag, needed, good_at, numbers_good, start_good, frame_good, BadStart, BadFrame};
+ghost use Rattle.std.specs.Prelude.{◌≡◌, ◌<◌, ◌&&◌, []};
+ghost use Rattle.frames.specs.Raw.{header_of};
+ghost use Rattle.frames.specs.Form.{is_token, is_nonterminal, is_symbol, are_symbols, is_word, word_of, between, header_good, rule_good, is_kernel_place, choice_good, entry_good, below, entries_rise, entries_good, section_good, needed, good_at, frame_good, numbers_good, start_good, BadStart, BadFrame};
 ghost use Rattle.frames.specs.Lowest.{Lowest};
 ghost use Rattle.frames.specs.Views.{raw};
 
-use crate::frames::{Frames, behind, byte_at, entry_at};
+use crate::frames::Frames;
 use crate::header::{Header, Section};
-
-/// The mark behind the last token.
-const END_MARK: u8 = 31;
+use symbols::{END_MARK, Word, nonterminal_index};
 
 /// The most bytes that a frame has.
 const MAX_FRAME: usize = 4096;
 
-fn token(h: Header, x: u8) -> bool
-    ensures { result ≡ is_token h x }
-{
-    1 <= x && x <= h.t
-}
+impl Header {
+    fn is_token(self, x: u8) -> bool
+        ensures { result ≡ is_token self x }
+    {
+        (1..=self.t).contains(&x)
+    }
 
-fn nonterminal(h: Header, x: u8) -> bool
-    ensures { result ≡ is_nonterminal h x }
-{
-    32 <= x && x as u16 <= 31 + h.n as u16
-}
+    fn is_nonterminal(self, x: u8) -> bool
+        ensures { result ≡ is_nonterminal self x }
+    {
+        nonterminal_index(x).is_some_and(|i| i < self.n as usize)
+    }
 
-fn symbol(h: Header, x: u8) -> bool
-    ensures { result ≡ is_symbol h x }
-{
-    token(h, x) || nonterminal(h, x)
-}
+    fn is_symbol(self, x: u8) -> bool
+        ensures { result ≡ is_symbol self x }
+    {
+        self.is_token(x) || self.is_nonterminal(x)
+    }
 
-// Whether all bytes are symbols.
-fn symbols(h: Header, bytes: &[u8]) -> bool
-    ensures { result ≡ are_symbols h bytes.now }
-{
-    for x in bytes {
-        if !symbol(h, *x) {
-            return false;
+    // Whether all bytes are symbols.
+    fn are_symbols(self, bytes: &[u8]) -> bool
+        ensures { result ≡ are_symbols self bytes.now }
+    {
+        bytes.iter().all(|x| self.is_symbol(*x))
+    }
+
+    fn is_word(self, word: Word) -> bool
+        ensures { result ≡ is_word self.k self (word_of word.first word.second) }
+    {
+        let Word { first, second } = word;
+        if second == 0 {
+            first == END_MARK || (self.k == 1 && self.is_token(first))
+        } else {
+            1 < self.k
+                && self.is_token(first)
+                && (second == END_MARK || (self.k == 2 && self.is_token(second)))
         }
     }
-    true
-}
 
-// Whether two numbers are a word, the second 0 where there is none.
-fn word(h: Header, a: u8, b: u8) -> bool
-    ensures { result ≡ is_word h.k h (word_of a b) }
-{
-    if b == 0 {
-        a == END_MARK || (h.k == 1 && token(h, a))
-    } else {
-        1 < h.k && token(h, a) && (b == END_MARK || (h.k - 1 == 1 && token(h, b)))
+    fn is_choice(self, left: u8, word: Word, rule: u8) -> bool
+        ensures { result ≡ choice_good self left word.first word.second rule }
+    {
+        self.is_nonterminal(left) && self.is_word(word) && rule < self.p
     }
-}
 
-// Whether an entry stands before another.
-fn before(x: &[u8], y: &[u8]) -> bool
-    ensures { result ≡ below x.now y.now }
-{
-    let mut i = 0;
-    'bytes: while i < x.len() && i < y.len() {
-        if x[i] != y[i] {
-            return x[i] < y[i];
+    // Whether the numbers of nonterminals, rules and states lie in their ranges.
+    fn is_small(self) -> bool
+        ensures { result ≡ (between 1 24 self.n && (between 1 60 self.p && between 1 200 self.s)) }
+    {
+        (1..=24).contains(&self.n) && (1..=60).contains(&self.p) && (1..=200).contains(&self.s)
+    }
+
+    // Whether each number lies in its range.
+    fn is_within(self) -> bool
+        ensures { result ≡ (between 1 2 self.k && (between 1 20 self.t && (between 1 24 self.n && (between 1 60 self.p && between 1 200 self.s)))) }
+    {
+        (1..=2).contains(&self.k) && (1..=20).contains(&self.t) && self.is_small()
+    }
+
+    // Whether a frame is a good first one, which has these numbers.
+    fn is_good(self, frame: &[u8]) -> bool
+        ensures { result ≡ header_good self frame.now }
+    {
+        matches!(frame, [1, _, _, _, _, _]) && self.is_within()
+    }
+
+    // Whether a frame is that of a rule.
+    fn is_rule(self, frame: &[u8]) -> bool
+        ensures { result ≡ rule_good self frame.now }
+    {
+        match frame {
+            [2, left, right @ ..] => {
+                right.len() <= 6 && self.is_nonterminal(*left) && self.are_symbols(right)
+            }
+            _ => false,
         }
-        i += 1;
     }
-    i < y.len()
 }
 
-fn header_good(h: Header, f: &[u8]) -> bool
-    ensures { result ≡ header_good h f.now }
-{
-    f.len() == 6
-        && byte_at(f, 0) == 1
-        && (1 <= h.k && h.k <= 2)
-        && (1 <= h.t && h.t <= 20)
-        && (1 <= h.n && h.n <= 24)
-        && (1 <= h.p && h.p <= 60)
-        && (1 <= h.s && h.s <= 200)
+// The frames of a table with the numbers in the first of them.
+#[derive(Clone, Copy)]
+struct Form<'a> {
+    frames: Frames<'a>,
+    header: Header,
+    ghost first: { header ≡ header_of (raw frames) },
 }
 
-fn rule_good(h: Header, f: &[u8]) -> bool
-    ensures { result ≡ rule_good h f.now }
-{
-    2 <= f.len()
-        && f.len() <= 8
-        && byte_at(f, 0) == 2
-        && nonterminal(h, byte_at(f, 1))
-        && symbols(h, behind(f, 2))
-}
+impl<'a> Form<'a> {
+    fn new(frames: Frames<'a>) -> Form<'a>
+        ensures { raw result.frames ≡ raw frames.entry }
+    {
+        Form {
+            frames,
+            header: frames.header(),
+        }
+    }
 
-impl<'a> Frames<'a> {
+    // How many frames a table has.
+    fn frames_needed(&self) -> u16
+        ensures needed { result ≡ needed (raw self.now.frames) }
+        ensures small { result < 2000 }
+    {
+        1 + self.header.p as u16 + 4 * self.header.s as u16
+    }
+
     // Whether a rule with a dot is a kernel place.
-    fn kernel_place(self, h: Header, r: u8, d: u8) -> bool
-        requires { h ≡ header_of (raw self) }
-        ensures { result ≡ is_kernel_place (raw self.entry) r d }
+    fn is_place(&self, rule: u8, dot: u8) -> bool
+        ensures { result ≡ is_kernel_place (raw self.now.frames) rule dot }
     {
-        r <= h.p && (d as usize) < self.right(r).len()
+        rule <= self.header.p && (dot as usize) < self.frames.right(rule).len()
     }
 
-    // Whether two bytes are an entry of a section.
-    fn pair_good(self, h: Header, section: Section, a: u8, b: u8) -> bool
-        requires { h ≡ header_of (raw self) }
-        ensures { result ≡ pair_good (raw self.entry) section a b }
+    // Whether bytes are an entry of a section.
+    fn is_entry(&self, section: Section, entry: &[u8]) -> bool
+        ensures { result ≡ entry_good (raw self.now.frames) section entry.now }
     {
-        match section {
-            Section::Kernel => self.kernel_place(h, a, b),
-            Section::Words => word(h, a, b),
-            Section::Successors => symbol(h, a) && b < h.s,
-            Section::Choices => false,
+        match (section, entry) {
+            (Section::Kernel, &[rule, dot]) => self.is_place(rule, dot),
+            (Section::Words, &[first, second]) => self.header.is_word(Word { first, second }),
+            (Section::Successors, &[symbol, state]) => {
+                self.header.is_symbol(symbol) && state < self.header.s
+            }
+            (Section::Choices, &[left, first, second, rule]) => {
+                self.header.is_choice(left, Word { first, second }, rule)
+            }
+            _ => false,
         }
     }
 
-    // Whether two bytes are an entry of a section that stands behind another.
-    fn pair_follows(self, h: Header, section: Section, last: &[u8], entry: &[u8]) -> bool
-        requires { h ≡ header_of (raw self) }
-        ensures { result ≡ (below last.now entry.now && pair_good (raw self.entry) section (slice_index entry.now 0) (slice_index entry.now 1)) }
+    // Whether bytes are an entry of a section that stands behind another.
+    fn follows(&self, section: Section, last: &[u8], entry: &[u8]) -> bool
+        ensures { result ≡ (below last.now entry.now && entry_good (raw self.now.frames) section entry.now) }
     {
-        before(last, entry) && self.pair_good(h, section, byte_at(entry, 0), byte_at(entry, 1))
+        last < entry && self.is_entry(section, entry)
     }
 
-    // Whether the entries of two bytes are good and rise.
-    fn pairs_good(self, h: Header, section: Section, entries: &[u8]) -> bool
-        requires { h ≡ header_of (raw self) }
-        ensures { result ≡ pairs_good (raw self.entry) section [] entries.now }
+    // Whether the entries of a section are good and rise.
+    fn entries_rise(&self, section: Section, entries: &[u8]) -> bool
+        ensures { result ≡ entries_rise (raw self.now.frames) section [] entries.now }
     {
+        let width = section.width();
         let mut last: &[u8] = &[];
-        let mut i = 0;
-        'entries: while i + 1 < entries.len() {
-            let entry = &entries[i..i + 2];
-            if !self.pair_follows(h, section, last, entry) {
+        for entry in entries.chunks_exact(width) {
+            if !self.follows(section, last, entry) {
                 return false;
             }
             last = entry;
-            i += 2;
         }
-        i == entries.len()
+        entries.len() % width == 0
     }
-}
 
-// Whether four bytes are a choice.
-fn choice_good(h: Header, entry: &[u8]) -> bool
-    ensures { result ≡ choice_good h (slice_index entry.now 0) (slice_index entry.now 1) (slice_index entry.now 2) (slice_index entry.now 3) }
-{
-    nonterminal(h, byte_at(entry, 0))
-        && word(h, byte_at(entry, 1), byte_at(entry, 2))
-        && byte_at(entry, 3) < h.p
-}
-
-// Whether four bytes are a choice that stands behind another.
-fn choice_follows(h: Header, last: &[u8], entry: &[u8]) -> bool
-    ensures { result ≡ (below last.now entry.now && choice_good h (slice_index entry.now 0) (slice_index entry.now 1) (slice_index entry.now 2) (slice_index entry.now 3)) }
-{
-    before(last, entry) && choice_good(h, entry)
-}
-
-// Whether the entries of four bytes are good and rise.
-fn choices_good(h: Header, entries: &[u8]) -> bool
-    ensures { result ≡ choices_good h [] entries.now }
-{
-    let mut last: &[u8] = &[];
-    let mut i = 0;
-    'entries: while i + 3 < entries.len() {
-        let entry = &entries[i..i + 4];
-        if !choice_follows(h, last, entry) {
-            return false;
-        }
-        last = entry;
-        i += 4;
-    }
-    i == entries.len()
-}
-
-// The tag that the frame of a section begins with.
-fn tag_of(section: Section) -> u8
-    ensures { result ≡ tag section }
-{
-    match section {
-        Section::Kernel => 3,
-        Section::Words => 4,
-        Section::Successors => 5,
-        Section::Choices => 6,
-    }
-}
-
-// How many frames a table has.
-fn frames_needed(h: Header) -> u16
-    ensures needed { result ≡ 1 + h.p + 4 * h.s }
-    ensures small { result < 2000 }
-{
-    1 + h.p as u16 + 4 * h.s as u16
-}
-
-// The section at a place, counted from the first state's first one.
-fn section_at(i: u16) -> Section
-    ensures { result ≡ section_at i }
-{
-    match i % 4 {
-        0 => Section::Kernel,
-        1 => Section::Words,
-        2 => Section::Successors,
-        _ => Section::Choices,
-    }
-}
-
-impl<'a> Frames<'a> {
     // Whether the entries of a section are as they should be.
-    fn entries_good(self, h: Header, section: Section, entries: &[u8]) -> bool
-        requires { h ≡ header_of (raw self) }
-        ensures { result ≡ entries_good (raw self.entry) section entries.now }
+    fn entries_good(&self, section: Section, entries: &[u8]) -> bool
+        ensures { result ≡ entries_good (raw self.now.frames) section entries.now }
     {
-        match section {
-            Section::Kernel => 1 <= entries.len() && self.pairs_good(h, Section::Kernel, entries),
-            Section::Words => 1 <= entries.len() && self.pairs_good(h, Section::Words, entries),
-            Section::Successors => self.pairs_good(h, Section::Successors, entries),
-            Section::Choices => choices_good(h, entries),
-        }
+        let some_wanted = matches!(section, Section::Kernel | Section::Words);
+        !(some_wanted && entries.is_empty()) && self.entries_rise(section, entries)
     }
 
     // Whether a frame is that of a section.
-    fn section_good(self, h: Header, section: Section, f: &[u8]) -> bool
-        requires { h ≡ header_of (raw self) }
-        ensures { result ≡ section_good (raw self.entry) section f.now }
+    fn is_section(&self, section: Section, frame: &[u8]) -> bool
+        ensures { result ≡ section_good (raw self.now.frames) section frame.now }
     {
-        1 <= f.len()
-            && f.len() <= MAX_FRAME
-            && byte_at(f, 0) == tag_of(section)
-            && self.entries_good(h, section, behind(f, 1))
+        match frame {
+            [tag, entries @ ..] => {
+                frame.len() <= MAX_FRAME
+                    && *tag == section.tag()
+                    && self.entries_good(section, entries)
+            }
+            [] => false,
+        }
     }
 
     // Whether a frame is what stands at its place.
-    fn good_at(self, h: Header, i: u16) -> bool
-        requires { h ≡ header_of (raw self) }
-        ensures { result ≡ good_at (raw self.entry) i }
+    fn is_good_at(&self, i: u16) -> bool
+        ensures { result ≡ good_at (raw self.now.frames) i }
     {
-        let f = self.frame(i);
-        let p = h.p as u16;
+        let frame = self.frames.frame(i);
+        let rules = self.header.p as u16;
         if i == 0 {
-            header_good(h, f)
-        } else if i <= p {
-            rule_good(h, f)
+            self.header.is_good(frame)
+        } else if i <= rules {
+            self.header.is_rule(frame)
         } else {
-            self.section_good(h, section_at(i - (1 + p)), f)
+            self.is_section(Section::at(i - (1 + rules)), frame)
         }
+    }
+
+    // Whether a frame is there and good, or none that a table has and not there.
+    fn is_frame_good(&self, i: u16) -> bool
+        ensures { result ≡ frame_good (raw self.now.frames) i }
+    {
+        if i < self.frames_needed() {
+            (i as usize) < self.frames.frames && self.is_good_at(i)
+        } else {
+            self.frames.frames <= i as usize
+        }
+    }
+
+    // The first frame that is not as it should be: if not up to the one behind the last, there is none.
+    fn bad_frame(&self) -> Option<u16>
+        ensures { Lowest (BadFrame (raw self.now.frames)) result }
+    {
+        (0..self.frames_needed() + 1).find(|i| !self.is_frame_good(*i))
     }
 }
 
@@ -256,51 +228,28 @@ impl<'a> Frames<'a> {
     }
 
     // Whether a frame begins where it may.
-    fn start_good(self, i: usize) -> bool
+    fn is_start_good(self, i: usize) -> bool
         ensures { result ≡ start_good (raw self.entry) i }
     {
-        let start = entry_at(self.starts, i);
-        if i == 0 {
-            start < self.bytes && start == 0
-        } else {
-            start < self.bytes && entry_at(self.starts, i - 1) < start
-        }
+        let start = self.start_at(i);
+        let rises = match i.checked_sub(1) {
+            None => start == 0,
+            Some(before) => self.start_at(before) < start,
+        };
+        start < self.bytes && rises
     }
 
     /// The first frame that does not begin where it may.
     pub fn bad_start(self) -> Option<usize>
         ensures { Lowest (BadStart (raw self.entry)) result }
     {
-        for i in 0..self.frames {
-            if !self.start_good(i) {
-                return Some(i);
-            }
-        }
-        None
-    }
-
-    // Whether a frame is there and good, or none that a table has and not there.
-    fn frame_good(self, h: Header, i: u16) -> bool
-        requires { h ≡ header_of (raw self) }
-        ensures { result ≡ frame_good (raw self.entry) i }
-    {
-        if i < frames_needed(h) {
-            (i as usize) < self.frames && self.good_at(h, i)
-        } else {
-            self.frames <= i as usize
-        }
+        (0..self.frames).find(|i| !self.is_start_good(*i))
     }
 
     /// The first frame that is not as it should be, missing or one too many.
     pub fn bad_frame(self) -> Option<usize>
         ensures { Lowest (BadFrame (raw self.entry)) result }
     {
-        let h = self.header();
-        for i in 0..frames_needed(h) + 1 {
-            if !self.frame_good(h, i) {
-                return Some(i as usize);
-            }
-        }
-        None
+        Form::new(self).bad_frame().map(usize::from)
     }
 }

@@ -1,14 +1,13 @@
 //! The frames of a table file in memory.
-ghost use Rattle.std.specs.Prelude.{◌≡◌, ◌+◌, ◌*◌, drop, slice_index};
-ghost use Rattle.frames.specs.Raw.{part, start_of, end_of, frame, header_of, left_of, right_of, place, section_of};
+ghost use Rattle.std.specs.Prelude.{◌≡◌, drop, slice_index};
+ghost use Rattle.frames.specs.Raw.{part, start_of, end_of, frame, header_of, left_of, right_of, section_of};
 ghost use Rattle.frames.specs.Views.{raw};
 
 use crate::header::{Header, Section};
-
-/// The right side of the start rule: the start symbol and the end mark.
-static START_RIGHT: [u8; 2] = [32, 31];
+use symbols::START_RIGHT;
 
 /// A table file in memory: the joined bytes of its frames, and where each begins.
+// The two numbers stand beside the memories as they are given: the check has to test them.
 #[derive(Clone, Copy)]
 pub struct Frames<'a> {
     pub store: &'a [u8],
@@ -21,47 +20,21 @@ pub struct Frames<'a> {
 fn cut<'a>(bytes: &'a [u8], from: usize, to: usize) -> &'a [u8]
     ensures { result.now ≡ part bytes.now from to }
 {
-    let end = if to < bytes.len() { to } else { bytes.len() };
-    let begin = if from < end { from } else { end };
-    &bytes[begin..end]
+    bytes.get(from..to.min(bytes.len())).unwrap_or(&[])
 }
 
 // The bytes from a place on.
-pub fn behind<'a>(bytes: &'a [u8], from: usize) -> &'a [u8]
+fn behind<'a>(bytes: &'a [u8], from: usize) -> &'a [u8]
     ensures { result.now ≡ drop from bytes.now }
 {
-    let begin = if from < bytes.len() {
-        from
-    } else {
-        bytes.len()
-    };
-    &bytes[begin..bytes.len()]
+    bytes.get(from..).unwrap_or(&[])
 }
 
-/// The byte at a place, or 0.
-pub fn byte_at(bytes: &[u8], at: usize) -> u8
+// The byte at a place, or 0.
+fn byte_at(bytes: &[u8], at: usize) -> u8
     ensures { result ≡ slice_index bytes.now at }
 {
-    if at < bytes.len() { bytes[at] } else { 0 }
-}
-
-// The start at a place, or 0.
-pub fn entry_at(starts: &[usize], at: usize) -> usize
-    ensures { result ≡ slice_index starts.now at }
-{
-    if at < starts.len() { starts[at] } else { 0 }
-}
-
-// The place of a section among those of a state.
-fn place_of(section: Section) -> u16
-    ensures { result ≡ place section }
-{
-    match section {
-        Section::Kernel => 0,
-        Section::Words => 1,
-        Section::Successors => 2,
-        Section::Choices => 3,
-    }
+    bytes.get(at).copied().unwrap_or(0)
 }
 
 impl<'a> Frames<'a> {
@@ -81,7 +54,14 @@ impl<'a> Frames<'a> {
     pub fn start(self, i: u16) -> usize
         ensures { result ≡ start_of (raw self.entry) i }
     {
-        entry_at(self.starts, i as usize)
+        self.start_at(i as usize)
+    }
+
+    // The same at any number.
+    pub(crate) fn start_at(self, i: usize) -> usize
+        ensures { result ≡ start_of (raw self.entry) i }
+    {
+        self.starts.get(i).copied().unwrap_or(0)
     }
 
     // Where a frame ends.
@@ -90,7 +70,7 @@ impl<'a> Frames<'a> {
     {
         let next = i as usize + 1;
         if next < self.frames {
-            entry_at(self.starts, next)
+            self.start_at(next)
         } else {
             self.bytes
         }
@@ -138,7 +118,7 @@ impl<'a> Frames<'a> {
     pub fn section(self, q: u8, section: Section) -> &'a [u8]
         ensures { result.now ≡ section_of (raw self.entry) q section }
     {
-        let i = 1 + self.header().p as u16 + 4 * q as u16 + place_of(section);
+        let i = 1 + self.header().p as u16 + 4 * q as u16 + section.place() as u16;
         behind(self.frame(i), 1)
     }
 }

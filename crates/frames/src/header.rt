@@ -1,4 +1,7 @@
 //! The numbers of a table, and the sections of a state.
+ghost use Rattle.std.specs.Prelude.{◌≡◌};
+ghost use Rattle.frames.specs.Raw.{place};
+ghost use Rattle.frames.specs.Form.{tag, section_at, width};
 
 /// The numbers that the first frame gives: symbols of lookahead, token kinds, nonterminals, rules and states.
 #[derive(Clone, Copy)]
@@ -21,4 +24,42 @@ pub enum Section {
     Successors,
     /// A nonterminal, the two symbols of a word, and a rule.
     Choices,
+}
+
+impl Section {
+    // The section at a place, counted from the first state's first one.
+    pub(crate) fn at(i: u16) -> Section
+        ensures { result ≡ section_at i }
+    {
+        [
+            Section::Kernel,
+            Section::Words,
+            Section::Successors,
+            Section::Choices,
+        ][i as usize % 4]
+    }
+
+    // Its place among those of a state.
+    pub(crate) fn place(self) -> u8
+        ensures { result ≡ place self }
+    {
+        self as u8
+    }
+
+    // The tag that its frame begins with.
+    pub(crate) fn tag(self) -> u8
+        ensures { result ≡ tag self }
+    {
+        3 + self.place()
+    }
+
+    // How many bytes an entry has.
+    pub(crate) fn width(self) -> usize
+        ensures { result ≡ width self }
+    {
+        match self {
+            Section::Kernel | Section::Words | Section::Successors => 2,
+            Section::Choices => 4,
+        }
+    }
 }

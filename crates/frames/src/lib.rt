@@ -5,5 +5,5 @@ mod form;
 mod frames;
 mod header;
 
-pub use frames::{Frames, byte_at};
+pub use frames::Frames;
 pub use header::{Header, Section};

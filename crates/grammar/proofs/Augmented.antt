@@ -9,7 +9,7 @@ use Rattle.grammar.proofs.Lists.{head_is, tail_is, every_back, every_map, every_
 use Rattle.grammar.proofs.Runs.{Run, done, token, rule}
 
 rule_front : (ρs : List Rule) (σ : Rule) (r : ℕ) {ρ : Rule} → rule_at ρs r ≡ some ρ → rule_at (ρs ++ σ ∷ []) r ≡ some ρ
-rule_front [] σ r e = let z : ◌≡◌ {A = ℕ} 0 1 = cc in absurd (omega arith)
+rule_front [] σ r e = absurd cc
 rule_front (τ ∷ ρs) σ zero e = e
 rule_front (τ ∷ ρs) σ (suc r) e = rule_front ρs σ r e
 
@@ -19,7 +19,7 @@ rule_end (τ ∷ ρs) σ = rule_end ρs σ
 
 rule_either : (ρs : List Rule) (σ : Rule) (r : ℕ) (ρ : Rule) → rule_at (ρs ++ σ ∷ []) r ≡ some ρ → (rule_at ρs r ≡ some ρ) ⊎ ((r ≡ length ρs) × (ρ ≡ σ))
 rule_either [] σ zero ρ e = inr (refl, cc)
-rule_either [] σ (suc r) ρ e = let z : ◌≡◌ {A = ℕ} 0 1 = cc in absurd (omega arith)
+rule_either [] σ (suc r) ρ e = absurd cc
 rule_either (τ ∷ ρs) σ zero ρ e = inl e
 rule_either (τ ∷ ρs) σ (suc r) ρ e = shift (rule_either ρs σ r ρ e)
   where
@@ -34,8 +34,8 @@ StartPart α B β = ((α ≡ []) × (B ≡ start_symbol) × (β ≡ end_mark ∷
 pub start_parts : (α : List ℕ) (B : ℕ) (β : List ℕ) → start_symbol ∷ end_mark ∷ [] ≡ α ++ B ∷ β → StartPart α B β
 start_parts [] B β e = inl (refl, sym (head_is e), sym (tail_is e))
 start_parts (a ∷ []) B β e = inr (ap (λ (y : ℕ). y ∷ []) (sym (head_is e)), sym (head_is (tail_is e)), sym (tail_is (tail_is e)))
-start_parts (a ∷ b ∷ []) B β e = let z : ◌≡◌ {A = ℕ} 0 1 = cc in absurd (omega arith)
-start_parts (a ∷ b ∷ c ∷ α) B β e = let z : ◌≡◌ {A = ℕ} 0 1 = cc in absurd (omega arith)
+start_parts (a ∷ b ∷ []) B β e = absurd cc
+start_parts (a ∷ b ∷ c ∷ α) B β e = absurd cc
 
 -- a step of another grammar that has its rule
 step_in : {g g' : Grammar} {r : ℕ} {φ ψ : List ℕ} (h : Step g r φ ψ) → IsRule g' r h.rule → Step g' r φ ψ

@@ -4,7 +4,7 @@
 use Rattle.std.proofs.Common.{◌≡◌, ℕ, ◌<◌, ◌↔◌, List, [], ◌∷◌, ◌++◌, sym, refl, ap, ◌∙◌, subst, subst₂, arith}
 use mathlib.Core.Option.{some}
 use mathlib.Core.Logic.Iff
-use native.Mathlib.Decide.{ℕ_discrete, dec_lt}
+use native.Mathlib.Decide.{ℕ_discrete}
 use Rattle.grammar.specs.Grammar.{Grammar, IsToken, IsNonterminal, end_mark}
 use Rattle.grammar.specs.Sound.{Sound}
 use Rattle.grammar.specs.Item.{Item, Closure}
@@ -20,12 +20,7 @@ use Rattle.grammar.proofs.Search.{found_state}
 
 -- numbers of which none is below the other are the same
 neither : (a b : ℕ) → (a < b → ⊥) → (b < a → ⊥) → a ≡ b
-neither a b f h = by (dec_lt a b) (dec_lt b a)
-  where
-    by : Dec (a < b) → Dec (b < a) → a ≡ b
-    by (yes l) d = absurd (f l)
-    by (no n) (yes l) = absurd (h l)
-    by (no n) (no m) = omega (arith, n, m)
+neither a b f h = omega (arith, f, h)
 
 pub longer : (ω σ : List ℕ) → Nonempty σ → Nonempty (ω ++ σ)
 longer [] σ ne = ne

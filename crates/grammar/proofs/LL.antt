@@ -24,8 +24,8 @@ use Rattle.grammar.proofs.Search.{dec_below, dec_two_fit}
 cut_marked : (k : ℕ) (u v : List ℕ) → take k u ≡ take k v → take k (u ++ end_mark ∷ []) ≡ take k (v ++ end_mark ∷ [])
 cut_marked zero u v e = refl
 cut_marked (suc k) [] [] e = refl
-cut_marked (suc k) [] (b ∷ v) e = let z : ◌≡◌ {A = ℕ} 0 1 = cc in absurd (omega arith)
-cut_marked (suc k) (a ∷ u) [] e = let z : ◌≡◌ {A = ℕ} 0 1 = cc in absurd (omega arith)
+cut_marked (suc k) [] (b ∷ v) e = absurd cc
+cut_marked (suc k) (a ∷ u) [] e = absurd cc
 cut_marked (suc k) (a ∷ u) (b ∷ v) e = ap₂ (λ (x : ℕ) (y : List ℕ). x ∷ y) (head_is e) (cut_marked k u v (tail_is e))
 
 cut_unmarked : (P : ℕ → Type 0) → (P end_mark → ⊥) → (k : ℕ) (u v : List ℕ) → Every P u → Every P v

@@ -50,7 +50,7 @@ module _ {V : Type 0} (o : Kind V) (g : Grammar) (wf : WellFormed g) (m : ℕ) (
   -- a solution holds the products of its rules
   join_holds : (S : ℕ → V) (ρs : List Rule) (r : ℕ) (ρ : Rule) (y : List ℕ) → rule_at ρs r ≡ some ρ → Holds o (product_of o S ρ.right) y
       → Holds o (join_of o S ρs ρ.left) y
-  join_holds S [] r ρ y i h = let z : ◌≡◌ {A = ℕ} 0 1 = cc in absurd (omega arith)
+  join_holds S [] r ρ y i h = absurd cc
   join_holds S (τ ∷ ρs) (suc r) ρ y i h = (c.join (share o S ρ.left τ) (join_of o S ρs ρ.left) y).1 (inr (join_holds S ρs r ρ y i h))
   join_holds S (τ ∷ ρs) zero ρ y i h =
       (c.join (share o S ρ.left τ) (join_of o S ρs ρ.left) y).1 (inl (subst (λ (σ : Rule). Holds o (share o S ρ.left σ) y) (rule_is i) own))
@@ -120,7 +120,7 @@ module _ {V : Type 0} (o : Kind V) (g : Grammar) (wf : WellFormed g) (m : ℕ) (
   )
     where
       by : {α rs u : List ℕ} → Run g α rs u → α ≡ A ∷ [] → Holds o (S A) (take m u)
-      by done e = let z : ◌≡◌ {A = ℕ} 0 1 = cc in absurd (omega arith)
+      by done e = absurd cc
       by (token {a = a} t d) e = let same : a ≡ A = cc in absurd (omega (arith, t.1, wf.tokens_below, n.0, same))
       by (rule {A = B} {r = r} {α = α} {w = w} ρ i f d) e =
           let same : ρ.left ≡ A = f ∙ cc in

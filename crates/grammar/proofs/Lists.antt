@@ -13,8 +13,8 @@ tail_is e = cc
 -- a list of one has nothing behind its first
 pub one_front : {A : Type 0} {x y : A} (xs ys : List A) → x ∷ [] ≡ xs ++ y ∷ ys → (xs ≡ []) × (x ≡ y) × (ys ≡ [])
 one_front [] ys e = (refl, head_is e, sym (tail_is e))
-one_front (a ∷ []) ys e = let z : ◌≡◌ {A = ℕ} 0 1 = cc in absurd (omega arith)
-one_front (a ∷ b ∷ xs) ys e = let z : ◌≡◌ {A = ℕ} 0 1 = cc in absurd (omega arith)
+one_front (a ∷ []) ys e = absurd cc
+one_front (a ∷ b ∷ xs) ys e = absurd cc
 
 pub take_join : (j m : ℕ) (u v : List ℕ) → j ≤ m → take j (u ++ take m v) ≡ take j (u ++ v)
 take_join zero m u v h = refl

@@ -1,7 +1,7 @@
 -- Runs, a form of derivations of token strings that is fit for proofs: the first symbol is a token of the string, or is replaced by a
 -- rule. Runs of two strings join to a run of both and come apart again, so a derivation at any places can be made one from the left: a run
 -- of x ω y is a run of x and one of ω y, and the latter with a rule in front is a run of A y.
-use Rattle.std.proofs.Common.{◌≡◌, ℕ, ◌↔◌, List, [], ◌∷◌, ◌++◌, sym, refl, ap, ◌∙◌, subst, subst₂, append_assoc, append-nil, arith}
+use Rattle.std.proofs.Common.{◌≡◌, ℕ, ◌↔◌, List, [], ◌∷◌, ◌++◌, sym, refl, ap, ◌∙◌, subst, subst₂, append_assoc, append-nil}
 use Rattle.grammar.specs.Grammar.{Rule, Grammar, IsToken, IsRule, Every, start_symbol}
 use Rattle.grammar.specs.Derivation.{Derives, Leftmost, DerivesTokens, Sentence, LeftParse}
 use Rattle.grammar.proofs.Lists.{every_append}
@@ -45,7 +45,7 @@ module _ (g : Grammar) where
 
   pub run_split : (α β : List ℕ) {γ rs w : List ℕ} → γ ≡ α ++ β → Run g γ rs w → Split α β rs w
   run_split [] β {rs = rs} {w = w} e d = record { rs₁ = []; rs₂ = rs; w₁ = []; w₂ = w; rules = refl; tokens = refl; first = done; second = same_symbols e d }
-  run_split (x ∷ α) β e done = let z : ◌≡◌ {A = ℕ} 0 1 = cc in absurd (omega arith)
+  run_split (x ∷ α) β e done = absurd cc
   run_split (x ∷ α) β e (token {a = a} t d) =
       let s : Split α β _ _ = run_split α β (cc) d in
       record {

@@ -50,7 +50,7 @@ left_fine k ρs = ((omega arith, omega arith), (inr (omega arith, omega arith), 
 two_fine : (g : Grammar) (a b : Rule) → Fine g a → Fine g b → (r : ℕ) (ρ : Rule) → rule_at (a ∷ b ∷ []) r ≡ some ρ → Fine g ρ
 two_fine g a b fa fb zero ρ i = subst (Fine g) (cc) fa
 two_fine g a b fa fb (suc zero) ρ i = subst (Fine g) (cc) fb
-two_fine g a b fa fb (suc (suc r)) ρ i = let z : ◌≡◌ {A = ℕ} 0 1 = cc in absurd (omega arith)
+two_fine g a b fa fb (suc (suc r)) ρ i = absurd cc
 
 -- tokens 1, so many
 abbrev ones : ℕ → List ℕ

@@ -1,14 +1,14 @@
 -- Yes and no as a kind of values: yes holds just the empty word, so each law is a law of truth values.
-use Rattle.std.proofs.Common.{◌≡◌, ℕ, Bool, true, false, ◌&&◌, ◌||◌, ◌⊎◌, ◌↔◌, List, [], ◌∷◌, ◌++◌, take, refl, inl, inr, arith}
+use Rattle.std.proofs.Common.{◌≡◌, ℕ, Bool, true, false, ◌&&◌, ◌||◌, ◌⊎◌, ◌↔◌, List, [], ◌∷◌, ◌++◌, take, refl, inl, inr}
 use Rattle.grammar.specs.Equations.{Holds}
 use Rattle.grammar.specs.Sample.{yes_no, YesNoIsAKind}
 
 never : {A : Type 0} → false ≡ true → A
-never e = let z : ◌≡◌ {A = ℕ} 0 1 = cc in absurd (omega arith)
+never e = absurd cc
 
 yes_holds : (w : List ℕ) → Holds yes_no true w ↔ (w ≡ [])
 yes_holds [] = (λ h. refl, λ e. refl)
-yes_holds (a ∷ w) = (λ h. never h, λ e. let z : ◌≡◌ {A = ℕ} 0 1 = cc in absurd (omega arith))
+yes_holds (a ∷ w) = (λ h. never h, λ e. absurd cc)
 
 join_holds : (x y : Bool) (w : List ℕ) → Holds yes_no (x || y) w ↔ (Holds yes_no x w ⊎ Holds yes_no y w)
 join_holds true y w = (inl, by y)

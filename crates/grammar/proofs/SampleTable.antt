@@ -17,7 +17,7 @@ use Rattle.grammar.proofs.SampleGrammars.{Fine, token_fine, sound}
 
 is_one : (r : ℕ) (ρ : Rule) → IsRule once r ρ → (r ≡ 0) × (ρ ≡ token_rule)
 is_one zero ρ e = (refl, cc)
-is_one (suc r) ρ e = let z : ◌≡◌ {A = ℕ} 0 1 = cc in absurd (omega arith)
+is_one (suc r) ρ e = absurd cc
 
 once_sound : Sound once
 once_sound = sound 1 (omega arith) (token_rule ∷ []) 0 refl (λ r ρ i. subst (Fine once) (sym (is_one r ρ i).1) (token_fine 1 (token_rule ∷ [])))
@@ -85,21 +85,21 @@ goes X q e = at_32 (eqb X 32) refl e
   where
     at_1 : (t : Bool) → eqb X 1 ≡ t → cond t (some 2) none ≡ some q → Goes X q
     at_1 true f e = by_1 (eqb-true X 1 f) (cc)
-    at_1 false f e = let z : ◌≡◌ {A = ℕ} 0 1 = cc in absurd (omega arith)
+    at_1 false f e = absurd cc
 
     at_32 : (t : Bool) → eqb X 32 ≡ t → cond t (some 1) (cond (eqb X 1) (some 2) none) ≡ some q → Goes X q
     at_32 true f e = by_32 (eqb-true X 32 f) (cc)
     at_32 false f e = at_1 (eqb X 1) refl e
 
 no_goes : (q X q' : ℕ) → sample_next (suc q) X ≡ some q' → ⊥
-no_goes q X q' e = let z : ◌≡◌ {A = ℕ} 0 1 = cc in omega arith
+no_goes q X q' e = cc
 
 -- FIRST
 only_1 : {rs u : List ℕ} → Run once (1 ∷ []) rs u → u ≡ 1 ∷ []
 only_1 d = from d refl
   where
     from : {α rs u : List ℕ} → Run once α rs u → α ≡ 1 ∷ [] → u ≡ 1 ∷ []
-    from done e = let z : ◌≡◌ {A = ℕ} 0 1 = cc in absurd (omega arith)
+    from done e = absurd cc
     from (token {a = a} {α = α} {rs = rs} {w = w} t d) e =
         let x : a ≡ 1 = cc in
         let n : α ≡ [] = cc in
@@ -110,7 +110,7 @@ only_32 : {rs u : List ℕ} → Run once (32 ∷ []) rs u → u ≡ 1 ∷ []
 only_32 d = from d refl
   where
     from : {α rs u : List ℕ} → Run once α rs u → α ≡ 32 ∷ [] → u ≡ 1 ∷ []
-    from done e = let z : ◌≡◌ {A = ℕ} 0 1 = cc in absurd (omega arith)
+    from done e = absurd cc
     from (token {a = a} t d) e = let x : a ≡ 32 = cc in absurd (omega (arith, t.1, x))
     from (rule {r = r} {α = α} {rs = rs} {w = w} ρ i l d) e =
         let n : α ≡ [] = cc in
@@ -262,15 +262,15 @@ chosen_fits q A y r c =
     }
 
 choice_chosen : (q A : ℕ) (y : List ℕ) (r : ℕ) → sample_choice q A y ≡ some r → Chosen q A y r
-choice_chosen zero A [] r e = let z : ◌≡◌ {A = ℕ} 0 1 = cc in absurd (omega arith)
-choice_chosen zero A (a ∷ b ∷ y) r e = let z : ◌≡◌ {A = ℕ} 0 1 = cc in absurd (omega arith)
-choice_chosen (suc q) A y r e = let z : ◌≡◌ {A = ℕ} 0 1 = cc in absurd (omega arith)
+choice_chosen zero A [] r e = absurd cc
+choice_chosen zero A (a ∷ b ∷ y) r e = absurd cc
+choice_chosen (suc q) A y r e = absurd cc
 choice_chosen zero A (a ∷ []) r e = by (eqb A 32) (eqb a 1) refl refl e
   where
     by : (t u : Bool) → eqb A 32 ≡ t → eqb a 1 ≡ u → cond t (cond u (some 0) none) none ≡ some r → Chosen 0 A (a ∷ []) r
     by true true f h e = record { state_is = refl; left_is = eqb-true A 32 f; word_is = ap (λ (x : ℕ). x ∷ []) (eqb-true a 1 h); rule_is = cc }
-    by true false f h e = let z : ◌≡◌ {A = ℕ} 0 1 = cc in absurd (omega arith)
-    by false u f h e = let z : ◌≡◌ {A = ℕ} 0 1 = cc in absurd (omega arith)
+    by true false f h e = absurd cc
+    by false u f h e = absurd cc
 
 chosen_choice : (q A : ℕ) (y : List ℕ) (r : ℕ) → Chosen q A y r → sample_choice q A y ≡ some r
 chosen_choice q A y r c =

@@ -51,7 +51,7 @@ dec_member y (x ∷ l) = by (List-discrete ℕ_discrete y x) (dec_member y l)
         which (inr m) = h m
 
 rule_below : (ρs : List Rule) (r : ℕ) (ρ : Rule) → rule_at ρs r ≡ some ρ → r < length ρs
-rule_below [] r ρ e = let z : ◌≡◌ {A = ℕ} 0 1 = cc in absurd (omega arith)
+rule_below [] r ρ e = absurd cc
 rule_below (τ ∷ ρs) zero ρ e = omega arith
 rule_below (τ ∷ ρs) (suc r) ρ e = let h = rule_below ρs r ρ e in omega arith
 
@@ -93,7 +93,7 @@ module _ (g : Grammar) (s : Sound g) (T : Table) where
   dec_successor q X = by (T.next q X) refl
     where
       by : (o : Option ℕ) → T.next q X ≡ o → Dec (HasSuccessor T q X)
-      by none e = no (λ (q', f). let z : ◌≡◌ {A = ℕ} 0 1 = cc in omega arith)
+      by none e = no (λ (q', f). cc)
       by (some q') e = yes (q', e)
 
   dec_after : (q : ℕ) (ω : List ℕ) → Dec ((q' : ℕ) × After T q ω q')
@@ -143,7 +143,7 @@ module _ (g : Grammar) (s : Sound g) (T : Table) where
     fitting = by_rule (rule_at g.rules r) refl
       where
         by_rule : (o : Option Rule) → rule_at g.rules r ≡ o → Fitting q r
-        by_rule none e = nothing (λ A y f. let j : IsRule g r f.rule = f.is_rule in let z : ◌≡◌ {A = ℕ} 0 1 = cc in omega arith)
+        by_rule none e = nothing (λ A y f. let j : IsRule g r f.rule = f.is_rule in cc)
         by_rule (some ρ) e = by_successor ρ e (dec_successor q ρ.left)
 
   -- a rule that fits is a rule of one nonterminal

@@ -17,7 +17,7 @@ use Rattle.grammar.proofs.Shapes.{productive, part_augmented}
 use Rattle.grammar.proofs.Items.{Spot, spot_of, before_reached, before_one, spot_down, spot_up, closure_kernel, closure→spot, valid→spot, spot→valid, spot→closure, before_nonzero, some_kernel, suffix_shape}
 
 pub cons_nonempty : (X : ℕ) (σ : List ℕ) → Nonempty (X ∷ σ)
-cons_nonempty X σ e = let z : ◌≡◌ {A = ℕ} 0 1 = cc in omega arith
+cons_nonempty X σ e = cc
 
 pub turned : {g : Grammar} {σ τ : List ℕ} → Equivalent g σ τ → Equivalent g τ σ
 turned e i y = ((e i y).1, (e i y).0)

@@ -10,65 +10,47 @@ ghost use Rattle.grammar.specs.Theorems.{AcceptedAreCanonical, LLIsDeterministic
 ghost use Rattle.grammar.specs.Sample.{SampleIsAccepted, SamplesNotLL, YesNoIsAKind};
 
 /// Derivations at any places and leftmost ones give the same sentences.
-pub fn derivations_stand() -> u8
+pub fn derivations_stand()
     ensures { SentencesParse }
-{
-    0
-}
+{}
 
 /// FIRST of a joined string is the product of FIRST of its parts, cut; the words behind a string come in as one more part.
-pub fn first_stands() -> u8
+pub fn first_stands()
     ensures { FirstOfProducts × FirstInTurn × FirstWithWords }
-{
-    0
-}
+{}
 
 /// Which nonterminals derive a token string, and FIRST of each, are least solutions, in any kind of values that reads as words; which nonterminals
 /// are reachable is found from the start symbol.
-pub fn equations_stand<V>() -> u8
+pub fn equations_stand<V>()
     ensures { LeastIsProductive V × LeastIsFirst V × ReachableIsFound }
-{
-    0
-}
+{}
 
 /// The viable suffixes, and their LL(k)-equivalence.
-pub fn suffixes_stand() -> u8
+pub fn suffixes_stand()
     ensures { SuffixesEnd × SuffixesShrink × SuffixesReplace × TopsAreLeftmost × EquivalentsAgree × EquivalentsFollow }
-{
-    0
-}
+{}
 
 /// Closure and next give the items valid for a suffix and for the suffix with one more symbol.
-pub fn items_stand() -> u8
+pub fn items_stand()
     ensures { ValidItemsClose × VCloses × KernelsFollow × WordsFollow }
-{
-    0
-}
+{}
 
 /// The parser's actions: a class shifts or produces, and no lookahead word begins another.
-pub fn actions_stand() -> u8
+pub fn actions_stand()
     ensures { ActionsExclude × WordsAreWhole }
-{
-    0
-}
+{}
 
 /// The tables with nothing wrong are the canonical collections with their deterministic parsers.
-pub fn tables_stand() -> u8
+pub fn tables_stand()
     ensures { AcceptedAreCanonical }
-{
-    0
-}
+{}
 
 /// A grammar is LL(k) just when its parser is deterministic, and just when its table has no conflict.
-pub fn conflicts_stand() -> u8
+pub fn conflicts_stand()
     ensures { LLIsDeterministic × LLWithoutConflict × ConflictsDecide × AcceptedAreLL }
-{
-    0
-}
+{}
 
 /// A table with nothing wrong, grammars that are LL(k) for no k, and a kind of values.
-pub fn samples_stand() -> u8
+pub fn samples_stand()
     ensures { SampleIsAccepted × SamplesNotLL × YesNoIsAKind }
-{
-    0
-}
+{}

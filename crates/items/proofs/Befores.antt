@@ -1,5 +1,5 @@
 -- What stands before a dot, read off the right sides: the symbol at the place below the dot.
-use Rattle.std.proofs.Common.{◌≡◌, ℕ, zero, suc, ◌+◌, ◌-◌, ◌<◌, List, [], ◌∷◌, ◌++◌, length, get_or, Some, sym, refl, ap, ◌∙◌, arith}
+use Rattle.std.proofs.Common.{◌≡◌, ℕ, zero, suc, ◌+◌, ◌-◌, ◌<◌, List, [], ◌∷◌, ◌++◌, length, Some, sym, refl, ap, ◌∙◌, arith}
 use mathlib.Core.Option.{some}
 use Rattle.grammar.specs.Grammar as grammar
 use Rattle.grammar.specs.Grammar.{Grammar, rule_at, IsRule}
@@ -16,7 +16,7 @@ pub record Cut (xs : List ℕ) (i X : ℕ) : Type 0 where
   pub long : length front ≡ i
 
 pub entry→cut : (xs : List ℕ) (i X : ℕ) → entry_at xs i ≡ Some X → Cut xs i X
-entry→cut [] i X e = let z : ◌≡◌ {A = ℕ} 0 1 = cc in absurd (omega arith)
+entry→cut [] i X e = absurd cc
 entry→cut (x ∷ xs) zero X e = let s : x ≡ X = cc in record { front = []; back = xs; whole = ap (λ (y : ℕ). y ∷ xs) s; long = refl }
 entry→cut (x ∷ xs) (suc i) X e =
     let c = entry→cut xs i X e in
@@ -34,13 +34,13 @@ pub record Numbered (ρs : List Rule) (r : ℕ) : Type 0 where
 
 pub numbered : (ρs : List Rule) (r i X : ℕ) → entry_at (right_side ρs r) i ≡ Some X → Numbered ρs r
 numbered [] zero i X e = record { rule = start_rule; is_rule = refl; right_is = refl }
-numbered [] (suc r) i X e = let z : ◌≡◌ {A = ℕ} 0 1 = cc in absurd (omega arith)
+numbered [] (suc r) i X e = absurd cc
 numbered (ρ ∷ ρs) zero i X e = record { rule = rule_of ρ; is_rule = refl; right_is = refl }
 numbered (ρ ∷ ρs) (suc r) i X e = let n = numbered ρs r i X e in record { rule = n.rule; is_rule = n.is_rule; right_is = n.right_is }
 
 pub rule_right_is : (ρs : List Rule) (r : ℕ) (ρ : grammar.Rule) → rule_at (rules_of ρs ++ start_rule ∷ []) r ≡ some ρ → right_side ρs r ≡ ρ.right
 rule_right_is [] zero ρ e = let s : start_rule ≡ ρ = cc in ap (λ (τ : grammar.Rule). τ.right) s
-rule_right_is [] (suc r) ρ e = let z : ◌≡◌ {A = ℕ} 0 1 = cc in absurd (omega arith)
+rule_right_is [] (suc r) ρ e = absurd cc
 rule_right_is (σ ∷ ρs) zero ρ e = let s : rule_of σ ≡ ρ = cc in ap (λ (τ : grammar.Rule). τ.right) s
 rule_right_is (σ ∷ ρs) (suc r) ρ e = rule_right_is ρs r ρ e
 
@@ -73,14 +73,3 @@ module _ (g : Grammar) (ρs : List Rule) (same : g.rules ≡ rules_of ρs) where
 
   pub before_up : (i : Item) (X : ℕ) → Before g i X → 0 < i.dot
   before_up i X b = omega (arith, b.dot_is)
-
--- rules of a list, by numbers
-pub rule_there : (ρs : List Rule) (d : Rule) (j : ℕ) → j < length ρs → rule_at (rules_of ρs) j ≡ some (rule_of (get_or ρs j d))
-rule_there [] d j h = absurd (omega arith)
-rule_there (ρ ∷ ρs) d zero h = refl
-rule_there (ρ ∷ ρs) d (suc j) h = rule_there ρs d j (omega arith)
-
-pub rule_found : (ρs : List Rule) (d : Rule) (j : ℕ) (ρ : grammar.Rule) → rule_at (rules_of ρs) j ≡ some ρ → (j < length ρs) × (ρ ≡ rule_of (get_or ρs j d))
-rule_found [] d j ρ e = let z : ◌≡◌ {A = ℕ} 0 1 = cc in absurd (omega arith)
-rule_found (σ ∷ ρs) d zero ρ e = let s : ρ ≡ rule_of σ = cc in (omega arith, s)
-rule_found (σ ∷ ρs) d (suc j) ρ e = let (h, s) = rule_found ρs d j ρ e in (omega arith, s)

@@ -1,6 +1,8 @@
 pub mod Grids
-pub mod Linking
+pub mod Made
 pub mod RightSides
+pub mod Linking
+pub mod Found
 pub mod Befores
 pub mod Closed
 pub mod Succeeding

@@ -1,12 +1,14 @@
 -- Seeds and links as equations in yes and no: the least solution tells what is found. It holds nothing else, since it is made from bottom by
 -- rules; and it holds all of that, since it solves the equations.
-use Rattle.std.proofs.Common.{◌≡◌, ℕ, zero, suc, Bool, true, false, ◌&&◌, ◌⊎◌, List, [], ◌∷◌, get_or, Decides, sym, refl, ap, ◌∙◌, subst, inl, inr, arith}
+use Rattle.std.proofs.Common.{◌≡◌, ℕ, zero, suc, ◌≤◌, Bool, true, false, ◌&&◌, ◌⊎◌, List, [], ◌∷◌, length, get_or, Decides, sym, refl, ap, ◌∙◌, subst, inl, inr, arith}
 use mathlib.Core.Option.{some}
 use Rattle.std.proofs.lemmas.Bool.{true≢false, cases_eq, cond-true, cond-false, eq-eqb, ne_eqb, le-ltb, or_cases, or_left, or_right}
 use Rattle.grammar.specs.Grammar.{Rule, Grammar, IsNonterminal, IsRule, rule_at}
 use Rattle.grammar.specs.Equations.{value, product_of, share, join_of, applied, FromBottom, at_bottom, by_rule, Least}
 use Rattle.solver.specs.declared.yes.Yes.{Yes}
+use Rattle.solver.specs.Solution.{valuation}
 use Rattle.solver.specs.YesKind.{yes_kind}
+use Rattle.items.specs.Actives.{mark}
 use Rattle.items.specs.Links.{Linked, seed, link}
 
 -- A rule has at most one symbol on its right, a nonterminal.
@@ -54,7 +56,7 @@ module _ (g : Grammar) (short : (j : ℕ) (ρ : Rule) → IsRule g j ρ → Shor
   module _ (S : ℕ → Yes) where
     joined : (ρs : List Rule) (j : ℕ) (ρ : Rule) (A : ℕ) → rule_at ρs j ≡ some ρ → ρ.left ≡ A → (product_of yes_kind S ρ.right).0 ≡ true
         → (join_of yes_kind S ρs A).0 ≡ true
-    joined [] j ρ A e l p = let z : ◌≡◌ {A = ℕ} 0 1 = cc in absurd (omega arith)
+    joined [] j ρ A e l p = absurd cc
     joined (σ ∷ ρs) zero ρ A e l p =
         let s : σ ≡ ρ = cc in
         or_left _ _ (ap (λ (τ : Rule). (share yes_kind S A τ).0) s ∙ ap (λ (y : Yes). y.0) (cond-true _ _ _ (eq-eqb _ _ l)) ∙ p)
@@ -66,7 +68,7 @@ module _ (g : Grammar) (short : (j : ℕ) (ρ : Rule) → IsRule g j ρ → Shor
     all_of_it least A n (link {A = B} j ρ before is l e) = by (λ m. all_of_it least B m before) (short j ρ is)
       where
         by : (IsNonterminal g B → (S B).0 ≡ true) → Short g ρ → (S A).0 ≡ true
-        by so (inl f) = let z : ◌≡◌ {A = ℕ} 0 1 = cc in absurd (omega arith)
+        by so (inl f) = absurd cc
         by so (inr (C, (m, f))) =
             let b : B ≡ C = ap (λ (α : List ℕ). get_or α 0 0) (sym e ∙ f) in
             let n' : IsNonterminal g B = subst (IsNonterminal g) (sym b) m in
@@ -75,3 +77,21 @@ module _ (g : Grammar) (short : (j : ℕ) (ρ : Rule) → IsRule g j ρ → Shor
 
   pub linked_told : (S : ℕ → Yes) → Least yes_kind g S → (A : ℕ) → IsNonterminal g A → Decides (S A).0 (Linked g.rules A)
   linked_told S least A n = (nothing_else S least.reached A n, all_of_it S least A n)
+
+-- the marks of a least solution along links between nonterminals of a grammar tell what is linked
+pub marks_told : (g : Grammar) → g.n ≤ 24 → (τs : List Rule) → ((j : ℕ) (ρ : Rule) → rule_at τs j ≡ some ρ → Short g ρ) → (vs : List Yes) → length vs ≡ 24
+    → ((h : Grammar) → h.rules ≡ τs → h.n ≡ length vs → Least yes_kind h (valuation yes_kind vs)) → (A : ℕ) → IsNonterminal g A → Decides (mark vs A).0 (Linked τs A)
+marks_told g few τs short vs many least A n = linked_told graph wide (valuation yes_kind vs) (least graph refl (sym many)) A (within A n)
+  where
+    graph : Grammar
+    graph = record { k = 1; t = 0; n = 24; rules = τs }
+
+    within : (B : ℕ) → IsNonterminal g B → IsNonterminal graph B
+    within B m = (m.0, omega (arith, m.1, few))
+
+    wide : (j : ℕ) (ρ : Rule) → rule_at τs j ≡ some ρ → Short graph ρ
+    wide j ρ is = by (short j ρ is)
+      where
+        by : Short g ρ → Short graph ρ
+        by (inl e) = inl e
+        by (inr (B, (m, e))) = inr (B, (within B m, e))

@@ -1,9 +1,12 @@
 -- The places of a successor, by the marks: an item is in a closure if it is in the set, or if it is a rule of a marked nonterminal with the dot at
 -- its end.
-use Rattle.std.proofs.Common.{◌≡◌, ℕ, zero, suc, ◌+◌, ◌-◌, ◌*◌, ◌/◌, ◌%◌, ◌<◌, true, false, eqb, ltb, leb, ◌⊎◌, List, [], ◌∷◌, length, get_or, Some, None, Decides, Option, sym, refl, ap, ◌∙◌, subst, ap₂, inl, inr, arith, length-append}
+use Rattle.std.proofs.Common.{◌≡◌, ℕ, zero, suc, ◌+◌, ◌-◌, ◌*◌, ◌/◌, ◌%◌, ◌<◌, Bool, true, false, ◌&&◌, eqb, ltb, leb, ◌⊎◌, List, [], ◌∷◌, length, get_or, Some, None, Decides, Option, sym, refl, ap, ◌∙◌, subst, ap₂, inl, inr, arith, length-append}
 use mathlib.Core.Option.{some}
 use lib.ListN.{length-map}
 use Rattle.std.proofs.lemmas.Bool.{true≢false, lt-ltb, le-leb, eq-eqb, eqb-true, and_parts, and_from, or_cases, or_left, or_right}
+use denote.Ref.{Bor}
+use Rattle.std.specs.Option.{MatchOption}
+use Rattle.std.specs.Slice.{IsItemAt}
 use Rattle.grammar.specs.Grammar as grammar
 use Rattle.grammar.specs.Grammar.{Grammar, rule_at, IsRule, IsNonterminal}
 use Rattle.grammar.specs.Item.{Item, raised, Before, Closure, of_kernel, of_rule, HasNext, NextKernel}
@@ -12,13 +15,13 @@ use Rattle.solver.specs.declared.yes.Yes.{Yes}
 use Rattle.solver.specs.Solution.{rule_of, rules_of}
 use Rattle.items.specs.declared.places.Places.{Places}
 use Rattle.items.specs.Sets.{has}
-use Rattle.items.specs.Symbols.{rule_right, entry_at, right_side}
+use Rattle.items.specs.Symbols.{entry_at, right_side}
 use Rattle.items.specs.Actives.{In, RulesOf, Active}
 use Rattle.items.specs.Nexts.{marked, brought_in, in_closure, found, next_has}
 use Rattle.items.proofs.Closed.{dot_low, rule_low}
-use Rattle.items.specs.Closures.{no_link}
 use Rattle.grammar.proofs.Augmented.{WhichRule, which_rule}
-use Rattle.items.proofs.Befores.{entry→before, before→entry, rule_found}
+use Rattle.items.proofs.RightSides.{told, rule_found}
+use Rattle.items.proofs.Befores.{entry→before, before→entry}
 
 -- an item that a closure brings in
 pub record Brought (g : Grammar) (K : Item → Type 0) (i : Item) : Type 0 where
@@ -40,6 +43,11 @@ pub found_is : (X : ℕ) (o : Option ℕ) → found X o ≡ true → o ≡ Some 
 found_is X None e = absurd (true≢false (sym e))
 found_is X (Some x) e = ap (λ (y : ℕ). Some y) (eqb-true x X e)
 
+-- what the marks bring in of a rule, by its number
+pub brought_told : (vs : List Yes) (d : ℕ) (ρs : List Rule) (r : ℕ) (o : Option (Bor Rule)) (b : Bool) → IsItemAt ρs r o
+    → MatchOption o (b ≡ false) (λ x. b ≡ (eqb (length x.now.right.now) d && marked vs x.now.left)) → b ≡ brought_in ρs vs r d
+brought_told vs d = told (λ ρs r. brought_in ρs vs r d) (λ ρ. eqb (length ρ.right.now) d && marked vs ρ.left) false (λ _. refl) (λ _ _. refl) (λ _ _ _. refl)
+
 -- the rules that the marks bring in, by numbers
 pub record Ends (ρs : List Rule) (vs : List Yes) (r d : ℕ) : Type 0 where
   pub rule : grammar.Rule
@@ -50,18 +58,18 @@ pub record Ends (ρs : List Rule) (vs : List Yes) (r d : ℕ) : Type 0 where
 pub brought→ends : (ρs : List Rule) (vs : List Yes) (r d : ℕ) → brought_in ρs vs r d ≡ true → Ends ρs vs r d
 brought→ends [] vs r d e = absurd (true≢false (sym e))
 brought→ends (ρ ∷ ρs) vs zero d e =
-    let (l, m) = and_parts (eqb (length (rule_right ρ)) d) (marked vs ρ.left) e in
+    let (l, m) = and_parts (eqb (length ρ.right.now) d) (marked vs ρ.left) e in
     record { rule = rule_of ρ; is_rule = refl; at_end = eqb-true _ d l; is_marked = m }
 brought→ends (ρ ∷ ρs) vs (suc r) d e =
     let b = brought→ends ρs vs r d e in
     record { rule = b.rule; is_rule = b.is_rule; at_end = b.at_end; is_marked = b.is_marked }
 
 pub ends→brought : (ρs : List Rule) (vs : List Yes) (r d : ℕ) → Ends ρs vs r d → brought_in ρs vs r d ≡ true
-ends→brought [] vs r d b = let i = b.is_rule in let z : ◌≡◌ {A = ℕ} 0 1 = cc in absurd (omega arith)
+ends→brought [] vs r d b = let i = b.is_rule in absurd cc
 ends→brought (ρ ∷ ρs) vs zero d b =
     let i = b.is_rule in
     let s : b.rule ≡ rule_of ρ = cc in
-    and_from (eqb (length (rule_right ρ)) d) (marked vs ρ.left) (eq-eqb _ d (sym (ap (λ (τ : grammar.Rule). length τ.right) s) ∙ b.at_end))
+    and_from (eqb (length ρ.right.now) d) (marked vs ρ.left) (eq-eqb _ d (sym (ap (λ (τ : grammar.Rule). length τ.right) s) ∙ b.at_end))
     (sym (ap (λ (τ : grammar.Rule). marked vs τ.left) s) ∙ b.is_marked)
 ends→brought (ρ ∷ ρs) vs (suc r) d b =
     ends→brought ρs vs r d (record { rule = b.rule; is_rule = b.is_rule; at_end = b.at_end; is_marked = b.is_marked })
@@ -118,7 +126,7 @@ module _ (ρs : List Rule) (s : Places) (vs : List Yes) (active : Active ρs s v
     where
       by : length b.rule.right ≡ length b.front + length (X ∷ b.back) → WhichRule g i.rule b.rule → (i.rule < 61) × (i.dot < 7)
       by n (inl is) =
-          let (low, _) = rule_found ρs no_link i.rule b.rule (rule_out i.rule b.rule is) in
+          let (_, _, low, _) = rule_found ρs i.rule b.rule (rule_out i.rule b.rule is) in
           (omega (arith, low, ok.few_rules), omega (arith, n, ok.short_sides i.rule b.rule is, b.dot_is))
       by n (inr (e, f)) =
           let many : length g.rules ≡ length ρs = ap length ok.same ∙ length-map ρs rule_of in

@@ -1,6 +1,11 @@
 -- The places that a list of bytes stands for.
 use Rattle.std.specs.Prelude.{ℕ, Bool, false, ◌&&◌, ◌||◌, List, [], ◌∷◌, ◌==◌}
 use Rattle.grammar.specs.Item.{Item}
+use Rattle.items.specs.declared.place.Place.{Place}
+
+-- A place as an item.
+abbrev pub item_of : Place → Item
+item_of p = record { rule = p.rule; dot = p.dot }
 
 -- Pairs of a rule and a dot, as items.
 abbrev pub items : List ℕ → List Item

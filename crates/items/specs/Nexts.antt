@@ -4,7 +4,7 @@ use Rattle.solver.specs.declared.rule.Rule.{Rule}
 use Rattle.solver.specs.declared.yes.Yes.{Yes}
 use Rattle.items.specs.declared.places.Places.{Places}
 use Rattle.items.specs.Sets.{has}
-use Rattle.items.specs.Symbols.{rule_right, entry_at, right_side}
+use Rattle.items.specs.Symbols.{entry_at, right_side}
 use Rattle.items.specs.Actives.{mark}
 
 -- A symbol is a marked nonterminal.
@@ -14,7 +14,7 @@ marked vs A = nat_le 32 A && (mark vs A).0
 -- Rule r is brought into the closure with the dot d: it is one of a marked nonterminal, and d is its end.
 abbrev pub brought_in : List Rule → List Yes → ℕ → ℕ → Bool
 brought_in [] vs r d = false
-brought_in (ρ ∷ ρs) vs zero d = length (rule_right ρ) == d && marked vs ρ.left
+brought_in (ρ ∷ ρs) vs zero d = length ρ.right.now == d && marked vs ρ.left
 brought_in (ρ ∷ ρs) vs (suc r) d = brought_in ρs vs r d
 
 -- It is in the closure.

@@ -1,22 +1,16 @@
 -- The right sides of rules, with the start rule behind the last.
-use Rattle.std.specs.Prelude.{ℕ, zero, suc, List, [], ◌∷◌, take, Some, None, Option}
+use Rattle.std.specs.Prelude.{ℕ, zero, suc, List, [], ◌∷◌, Option, slice_get}
 use Rattle.solver.specs.declared.rule.Rule.{Rule}
-
--- The symbols on the right of a rule.
-abbrev pub rule_right : Rule → List ℕ
-rule_right ρ = take ρ.len ρ.right
 
 -- The symbol at a place of a list, if there is one.
 abbrev pub entry_at : List ℕ → ℕ → Option ℕ
-entry_at [] i = None
-entry_at (x ∷ xs) zero = Some x
-entry_at (x ∷ xs) (suc i) = entry_at xs i
+entry_at xs i = slice_get xs i
 
 -- The right side of rule r. Behind the last rule comes the start rule, and then nothing.
 abbrev pub right_side : List Rule → ℕ → List ℕ
 right_side [] zero = 32 ∷ 31 ∷ []
 right_side [] (suc r) = []
-right_side (ρ ∷ ρs) zero = rule_right ρ
+right_side (ρ ∷ ρs) zero = ρ.right.now
 right_side (ρ ∷ ρs) (suc r) = right_side ρs r
 
 -- The symbol at a place of the right side of rule r, from 0.

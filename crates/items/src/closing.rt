@@ -1,111 +1,82 @@
-//! The closure of a set of places: which nonterminals stand before a dot in it. The solver finds them, along seeds and links.
-ghost use Rattle.std.specs.Prelude.{◌≡◌, ℕ, ◌<◌, length, slice_index_or};
+//! The nonterminals that stand before a dot of the closure of a set. The solver finds them, along seeds and links.
+ghost use Rattle.std.specs.Prelude.{◌≡◌, ℕ, ◌<◌, length};
+ghost use Rattle.std.proofs.Math.Option.{some};
+ghost use Rattle.grammar.specs.Grammar.{rule_at};
+ghost use Rattle.solver.specs.Solution.{rule_of, rules_of};
 ghost use Rattle.items.specs.Actives.{Active};
-ghost use Rattle.items.specs.Closures.{no_link, seed_of, link_to, seed_at, last_link, last_at, link_at};
+ghost use Rattle.items.specs.Closures.{no_link, rule_to, seed_at, last_link, last_at, link_at};
 
+use crate::place::{PLACES, Place};
 use crate::places::Places;
-use crate::symbols::{right_side, symbol_at, symbols_of};
+use crate::right_sides::symbol_before;
 use solver::{Rule, Yes, solve};
+use std::slice::from_ref;
 
-/// How many places a set may have, and then how many rules there may be.
-const PLACES: u16 = 427;
-
-const LINKS: u16 = 487;
-
-pub fn seed(symbol: Option<u8>) -> Rule
-    ensures { result ≡ seed_of symbol }
-{
-    match symbol {
-        None => no_link(),
-        Some(x) => Rule {
-            left: x,
-            len: 0,
-            right: [0, 0, 0, 0, 0, 0],
-        },
-    }
-}
-
-pub fn no_link() -> Rule
-    ensures { result ≡ no_link }
+/// No seed and no link.
+pub fn no_link() -> Rule<'static>
+    ensures { rule_of result ≡ no_link }
 {
     Rule {
         left: 0,
-        len: 0,
-        right: [0, 0, 0, 0, 0, 0],
+        right: &[],
     }
 }
 
-pub fn link(from: u8, symbol: Option<u8>) -> Rule
-    ensures { result ≡ link_to from symbol }
+/// A rule with a symbol on its left, if there is one: a seed with nothing on its right, a link with one symbol there.
+pub fn link(right: &[u8], symbol: Option<u8>) -> Rule<'_>
+    ensures { rule_of result ≡ rule_to right.now symbol }
 {
     match symbol {
+        Some(left) => Rule { left, right },
         None => no_link(),
-        Some(x) => Rule {
-            left: x,
-            len: 1,
-            right: [from, 0, 0, 0, 0, 0],
-        },
     }
 }
 
-// The symbol just before the dot of a place of the set is a seed.
-fn seed_at(rules: &[Rule], places: &Places, rule: u8, dot: u8) -> Rule
-    ensures { result ≡ seed_at rules.now places.now rule dot }
+// The symbol just before the dot of a place of the set is a seed. Rules and places stay two parameters here: they become one
+// value, a closure, once its marks are found.
+fn seed_at(rules: &[Rule], places: &Places, place: Place) -> Rule<'static>
+    ensures { rule_of result ≡ seed_at rules.now places.now place.rule place.dot }
 {
-    if 0 < dot && places.contains(rule, dot) {
-        seed(symbol_at(right_side(rules, rule), dot as usize - 1))
+    if places.contains(place) {
+        link(&[], symbol_before(rules, place))
     } else {
         no_link()
     }
 }
 
 // The last symbol of a right side is linked to the left side.
-fn last_link(rule: &Rule) -> Rule
-    ensures { result ≡ last_link rule.now }
+fn last_link<'a>(rule: &'a Rule<'a>) -> Rule<'a>
+    ensures { rule_of result ≡ last_link rule.now }
 {
-    let symbols = symbols_of(rule);
-    let last = if symbols.len() == 0 {
-        0
-    } else {
-        symbols.len() - 1
-    };
-    link(rule.left, symbol_at(symbols, last))
+    link(from_ref(&rule.left), rule.right.last().copied())
 }
 
-fn last_at(rules: &[Rule], rule: usize) -> Rule
-    ensures { result ≡ last_at rules.now rule }
+fn last_at<'a>(rules: &'a [Rule<'a>], rule: usize) -> Rule<'a>
+    ensures { rule_of result ≡ last_at rules.now rule }
 {
-    if rule < rules.len() {
-        last_link(&rules[rule])
-    } else {
-        no_link()
-    }
+    rules.get(rule).map_or(no_link(), last_link)
 }
 
-fn link_at(rules: &[Rule], places: &Places, j: u16) -> Rule
-    ensures { result ≡ link_at rules.now places.now j }
+fn link_at<'a>(rules: &'a [Rule<'a>], places: &Places, j: usize) -> Rule<'a>
+    ensures { rule_of result ≡ link_at rules.now places.now j }
 {
     if j < PLACES {
-        seed_at(rules, places, (j / 7) as u8, (j % 7) as u8)
+        seed_at(rules, places, Place::numbered(j))
     } else {
-        last_at(rules, (j - PLACES) as usize)
+        last_at(rules, j - PLACES)
     }
 }
 
 // All seeds, place by place, and then all links.
-fn links(rules: &[Rule], places: &Places) -> [Rule; 487]
+fn links<'a>(rules: &'a [Rule<'a>], places: &Places) -> [Rule<'a>; 487]
     ensures long { length result ≡ 487 }
-    ensures each { (j : ℕ) → j < 487 → slice_index_or result j no_link ≡ link_at rules.now places.now j }
+    ensures each { (j : ℕ) → j < 487 → rule_at (rules_of result) j ≡ some (link_at rules.now places.now j) }
 {
-    let mut found = [no_link(); 487];
-    for j in 0..LINKS {
-        found[j as usize] = link_at(rules, places, j);
-    }
-    found
+    std::array::from_fn(|j| link_at(rules, places, j))
 }
 
 /// Which nonterminals stand before a dot of the closure of a set.
-pub fn active(rules: &[Rule], places: &Places) -> [Yes; 24]
+pub fn active(rules: &[Rule<'_>], places: &Places) -> [Yes; 24]
     ensures { Active rules.now places.now result }
 {
     let links = links(rules, places);

@@ -2,12 +2,14 @@
 #![tactic(auto)]
 
 mod closing;
-mod next;
+mod closure;
+mod place;
 mod places;
 mod reach;
-mod symbols;
+mod right_sides;
 
 pub use closing::active;
-pub use next::successor;
+pub use closure::Closure;
+pub use place::Place;
 pub use places::Places;
 pub use reach::reachable;

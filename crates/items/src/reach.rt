@@ -1,59 +1,53 @@
 //! Which nonterminals are reachable. The solver finds them, along links from left sides to what stands on the right.
-ghost use Rattle.std.specs.Prelude.{◌≡◌, ℕ, ◌<◌, length, slice_index_or};
-ghost use Rattle.items.specs.Closures.{no_link};
+ghost use Rattle.std.specs.Prelude.{◌≡◌, ℕ, ◌<◌, length};
+ghost use Rattle.std.proofs.Math.Option.{some};
+ghost use Rattle.grammar.specs.Grammar.{rule_at};
+ghost use Rattle.solver.specs.Solution.{rule_of, rules_of};
 ghost use Rattle.items.specs.Reaching.{symbol_link, symbol_link_at, reach_at, Reaches};
 
-use crate::closing::{link, no_link, seed};
-use crate::symbols::{symbol_at, symbols_of};
+use crate::closing::{link, no_link};
 use solver::{Rule, Yes, solve};
-
-/// The start symbol.
-const START: u8 = 32;
+use std::slice::from_ref;
+use symbols::START;
 
 /// How many places the right sides of 60 rules may have.
-const SYMBOLS: u16 = 360;
+const SYMBOLS: usize = 360;
 
-fn symbol_link(rule: &Rule, at: u16) -> Rule
-    ensures { result ≡ symbol_link rule.now at }
+fn symbol_link<'a>(rule: &'a Rule<'a>, at: usize) -> Rule<'a>
+    ensures { rule_of result ≡ symbol_link rule.now at }
 {
-    link(rule.left, symbol_at(symbols_of(rule), at as usize))
+    link(from_ref(&rule.left), rule.right.get(at).copied())
 }
 
-fn symbol_link_at(rules: &[Rule], rule: u16, at: u16) -> Rule
-    ensures { result ≡ symbol_link_at rules.now rule at }
+fn symbol_link_at<'a>(rules: &'a [Rule<'a>], rule: usize, at: usize) -> Rule<'a>
+    ensures { rule_of result ≡ symbol_link_at rules.now rule at }
 {
-    let r = rule as usize;
-    if r < rules.len() {
-        symbol_link(&rules[r], at)
-    } else {
-        no_link()
-    }
+    rules
+        .get(rule)
+        .map_or(no_link(), |rule| symbol_link(rule, at))
 }
 
-fn reach_at(rules: &[Rule], j: u16) -> Rule
-    ensures { result ≡ reach_at rules.now j }
+fn reach_at<'a>(rules: &'a [Rule<'a>], j: usize) -> Rule<'a>
+    ensures { rule_of result ≡ reach_at rules.now j }
 {
     if j < SYMBOLS {
         symbol_link_at(rules, j / 6, j % 6)
     } else {
-        seed(Some(START))
+        link(&[], Some(START))
     }
 }
 
 // All links, and the start symbol as the one seed.
-fn reach_links(rules: &[Rule]) -> [Rule; 361]
+fn reach_links<'a>(rules: &'a [Rule<'a>]) -> [Rule<'a>; 361]
     ensures long { length result ≡ 361 }
-    ensures each { (j : ℕ) → j < 361 → slice_index_or result j no_link ≡ reach_at rules.now j }
+    ensures each { (j : ℕ) → j < 361 → rule_at (rules_of result) j ≡ some (reach_at rules.now j) }
 {
-    let mut found = [no_link(); 361];
-    for j in 0..SYMBOLS + 1 {
-        found[j as usize] = reach_at(rules, j);
-    }
-    found
+    std::array::from_fn(|j| reach_at(rules, j))
 }
 
 /// Which nonterminals occur in a string derived from the start symbol.
-pub fn reachable(rules: &[Rule]) -> [Yes; 24]
+// Ends as `active` does: one function of both would be handed links, and could say nothing of what they mean.
+pub fn reachable(rules: &[Rule<'_>]) -> [Yes; 24]
     ensures { Reaches rules.now result }
 {
     let links = reach_links(rules);

@@ -16,13 +16,9 @@ fn listing_of(heap: Global, sheet: &[u8]) -> Result<String, AllocError>
     format!(in heap; "{listing}")
 }
 
-fn run(rt: &HostRuntime) -> anyhow::Result<()> {
+fn main(rt: HostRuntime) -> anyhow::Result<()> {
     let mut sheet = Vec::new(rt.alloc());
     rt.stdin().read_to_end(&mut sheet)?;
     rt.print(listing_of(rt.alloc(), &sheet)?)?;
     Ok(())
-}
-
-fn main(rt: HostRuntime) -> anyhow::Result<()> {
-    run(&rt)
 }

@@ -1,14 +1,15 @@
 -- Escaped text, byte after byte.
-use Rattle.std.proofs.Common.{◌≡◌, ℕ, ◌+◌, ◌<◌, List, [], ◌∷◌, ◌++◌, length, get_or, take, sym, refl, ap, ◌∙◌, append_assoc, append-nil}
-use lib.Utf8.{encode}
-use Rattle.std.proofs.lemmas.Str.Ascii.{encode_ascii}
+use Rattle.std.proofs.Common.{◌≡◌, ℕ, ◌+◌, ◌-◌, ◌^◌, ◌<◌, true, false, List, [], ◌∷◌, ◌++◌, length, get_or, take, sym, refl, ap, ◌∙◌, append_assoc, append-nil}
+use Rattle.std.specs.Fmt.{HasWritten, digits, format_spec, padded_integral}
+use Rattle.std.specs.declared.fmt.Formatter.{Formatter}
+use Rattle.std.proofs.Output.{has_written_of_eq}
+use Rattle.std.proofs.lemmas.Fmt.{hex_byte}
 use Rattle.std.proofs.lemmas.List.{take_more}
-use Rattle.listing.specs.Escapes.{escaped, escaped_text}
+use Rattle.listing.specs.Escapes.{escape, escaped, escaped_text}
 
--- two characters as they are written
-pub two_characters : (h l a b : ℕ) → h ≡ a → l ≡ b → h < 128 → l < 128 → encode h ++ encode l ≡ a ∷ b ∷ []
-two_characters h l a b p q x y =
-    ap (λ (c : List ℕ). c ++ encode l) (encode_ascii h x ∙ ap (λ n. n ∷ []) p) ∙ ap (λ (c : List ℕ). a ∷ c) (encode_ascii l y ∙ ap (λ n. n ∷ []) q)
+-- what `{:02X}` writes behind the backslash and the x
+pub put_escape : {W : Type 0} (took : W → List ℕ → W → Type 0) (f h : Formatter W) (b : ℕ) → b < 256 → HasWritten took f (92 ∷ 120 ∷ padded_integral (format_spec 32 0 4 2 (2 ^ 64 - 1)) false [] (digits 16 true b)) h → HasWritten took f (escape b) h
+put_escape took f h b byte = has_written_of_eq took f _ _ h (ap (λ t. 92 ∷ 120 ∷ t) (hex_byte true b byte))
 
 escaped_append : (xs ys : List ℕ) → escaped_text (xs ++ ys) ≡ escaped_text xs ++ escaped_text ys
 escaped_append [] ys = refl

@@ -1,5 +1,5 @@
 -- The lines of a listing.
-use Rattle.std.specs.Prelude.{ℕ, Bool, cond, ◌||◌, List, [], ◌∷◌, ◌++◌, codes, decimal, ◌==◌, nat_le, slice_index_or}
+use Rattle.std.specs.Prelude.{ℕ, Bool, true, false, Ok, Err, Result, cond, ◌||◌, List, [], ◌∷◌, ◌++◌, codes, decimal, ◌==◌, nat_le, slice_index_or}
 use Rattle.sheet.specs.Faults.{fault_number, reason_of}
 use Rattle.sheet.specs.Scan.{Spot}
 use Rattle.sheet.specs.Scanners.{spot_of}
@@ -8,6 +8,9 @@ use Rattle.source.specs.Refusals.{too_long}
 use Rattle.source.specs.Shown.{place_text, reason_too_long}
 use Rattle.source.specs.declared.fault.Faulted.{Faulted}
 use Rattle.source.specs.declared.fault.TooLong.{TooLong}
+use Rattle.sheet.specs.declared.lexeme.PlacedLexeme.{PlacedLexeme}
+use Rattle.source.specs.declared.token.Entry.{Entry}
+use Rattle.source.specs.declared.token.Entry.TheVariants.{Given, End}
 use Rattle.source.specs.declared.token.Place.{Place}
 use Rattle.listing.specs.Escapes.{escaped_text}
 use Rattle.listing.specs.declared.line.Line.{Line}
@@ -50,7 +53,20 @@ too_long_line e = codes "refused " ++ (decimal (too_long e).number ++ (codes " "
 
 -- what is printed of each line
 abbrev pub line_text : Line → List ℕ
-line_text (line.Token x p) = spot_line (spot_of x p)
+line_text (line.Token x) = spot_line (spot_of x)
 line_text (line.End p) = end_line p
 line_text (line.Fault f) = fault_line f
 line_text (line.TooLong e) = too_long_line e
+
+-- the line for what a scanner gave
+abbrev pub line_of : Result (Entry PlacedLexeme) (Faulted ScanFault) → Line
+line_of (Ok (Given x)) = line.Token x
+line_of (Ok (End p)) = line.End p
+line_of (Err f) = line.Fault f
+
+-- no line follows
+abbrev pub last : Line → Bool
+last (line.Token x) = false
+last (line.End p) = true
+last (line.Fault f) = true
+last (line.TooLong e) = true

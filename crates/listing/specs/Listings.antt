@@ -1,12 +1,9 @@
 -- The listing of a sheet: a line for each token, and one for the last entry.
-use Rattle.std.specs.Prelude.{◌≡◌, ℕ, Bool, true, false, cond, List, [], ◌∷◌, ◌++◌, length, nat_le}
+use Rattle.std.specs.Prelude.{ℕ, cond, List, [], ◌∷◌, ◌++◌, length, nat_le}
 use Rattle.source.specs.Meaning.{Last, ends, faults}
-use Rattle.sheet.specs.Scan.{Spot, Scanned, before, only, scan}
-use Rattle.sheet.specs.Scanners.{spot_of}
+use Rattle.sheet.specs.Scan.{Spot, Scanned, scan}
 use Rattle.sheet.specs.declared.fault.ScanFault.{ScanFault}
 use Rattle.listing.specs.Lines.{spot_line, fault_line, end_line, too_long_line}
-use Rattle.listing.specs.declared.line.Line.{Line}
-use Rattle.listing.specs.declared.line.Line.TheVariants as line
 
 -- the line of the last entry
 abbrev pub last_line : Last ScanFault → List ℕ
@@ -26,17 +23,3 @@ listing m = lines m.spots m.last
 abbrev pub sheet_listing : List ℕ → List ℕ
 sheet_listing sheet =
     cond (nat_le (length sheet) 60000) (listing (scan sheet)) (too_long_line (record { length = length sheet }) ++ 10 ∷ [])
-
--- the line for the first of what m has to come, where n is left behind it
-abbrev pub NextLine : Scanned → Line → Scanned → Type 0
-NextLine m (line.Token x p) n = m ≡ before (spot_of x p) n
-NextLine m (line.End p) n = m ≡ only (ends p)
-NextLine m (line.Fault f) n = m ≡ only (faults f)
-NextLine m (line.TooLong e) n = ⊥
-
--- no line follows
-abbrev pub last : Line → Bool
-last (line.Token x p) = false
-last (line.End p) = true
-last (line.Fault f) = true
-last (line.TooLong e) = true

@@ -1,6 +1,6 @@
 //! Bytes of a sheet as printable text.
-ghost use Rattle.std.specs.Prelude.{◌≡◌, ◌<◌, true, Some};
-ghost use Rattle.std.specs.Fmt.{WritesOnOk, digit_glyph};
+ghost use Rattle.std.specs.Prelude.{◌≡◌, Some};
+ghost use Rattle.std.specs.Fmt.{WritesOnOk};
 ghost use Rattle.listing.specs.Escapes.{plain, escape, escaped, escaped_text};
 
 use std::fmt;
@@ -14,27 +14,14 @@ pub struct Escaped<'a> {
 fn is_plain(byte: u8) -> bool
     ensures { result ≡ plain byte }
 {
-    byte >= b' ' && byte <= b'~' && byte != b'\\'
+    matches!(byte, b' '..=b'~') && byte != b'\\'
 }
 
-fn hex_digit(value: u8) -> char
-    requires { value < 16 }
-    ensures value { result ≡ digit_glyph true value }
-    ensures ascii { result < 128 }
-{
-    if value < 10 {
-        char::from(b'0' + value)
-    } else {
-        char::from(b'A' - 10 + value)
-    }
-}
-
+#[tactic(auto, using(crate::proofs::Escapes::put_escape))]
 fn write_escape<W: fmt::Write>(byte: u8, f: &mut fmt::Formatter<W>) -> fmt::Result
     ensures { WritesOnOk W.Write.write_str_gives f.old result (escape byte) f.new }
 {
-    let high = hex_digit(byte / 16);
-    let low = hex_digit(byte % 16);
-    write!(f, "\\x{high}{low}")
+    write!(f, "\\x{byte:02X}")
 }
 
 fn write_byte<W: fmt::Write>(byte: u8, f: &mut fmt::Formatter<W>) -> fmt::Result

@@ -1,6 +1,6 @@
 -- Where n bytes stand before the first line end of a text, only the first n can be a frame that the text begins with: a shorter line
 -- would have a line end behind it, a longer one a line end for a digit.
-use Rattle.std.proofs.Common.{◌≡◌, ℕ, ◌+◌, ◌<◌, ◌≤◌, true, false, ◌⊎◌, List, ◌∷◌, ◌++◌, length, get_or, take, drop, sym, refl, ap, ◌∙◌, inl, inr, arith, length-append}
+use Rattle.std.proofs.Common.{◌≡◌, ℕ, ◌+◌, ◌<◌, ◌≤◌, true, false, ◌⊎◌, List, ◌∷◌, ◌++◌, length, get_or, take, drop, sym, refl, ap, ◌∙◌, inl, inr, arith, length-append, length-drop}
 use Rattle.std.proofs.lemmas.List.{get_or_at, get_or_append_left, take_at, take-append-drop, drop_more}
 use Rattle.std.proofs.lemmas.Bool.{and_parts, both_ways, cases_lt}
 use Rattle.load.specs.Digits.{is_digit}
@@ -50,3 +50,11 @@ module _ (text : List ℕ) (n : ℕ) (ends : Ends text n) where
   pub cut_whole : n < length text → text ≡ take n text ++ 10 ∷ drop (n + 1) text
   cut_whole lt =
       sym (take-append-drop n text) ∙ ap (λ l. take n text ++ l) (drop_more text n 0 lt ∙ ap (λ b. b ∷ drop (n + 1) text) (ends.closed lt))
+
+-- Cutting n bytes off finds what the text begins with: nothing where no byte is behind them, and else what the test of them says.
+module _ (text : List ℕ) (n : ℕ) (ends : Ends text n) where
+  pub cut_all : (behind : List ℕ) → behind ≡ drop n text → length behind ≡ 0 → Unframed text
+  cut_all behind is none = cut_open text n ends (omega (arith, none, ap length is, length-drop n text))
+
+  pub cut_none : (line : List ℕ) → line ≡ take n text → is_frame line ≡ false → Unframed text
+  cut_none line front unfit = cut_unfit text n ends (ap is_frame (sym front) ∙ unfit)

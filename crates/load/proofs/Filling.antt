@@ -2,6 +2,7 @@
 -- those of the rest.
 use Rattle.std.proofs.Common.{◌≡◌, ℕ, suc, ◌+◌, ◌/◌, ◌<◌, ◌≤◌, true, List, [], ◌∷◌, ◌++◌, length, get_or, take, drop, set, Ok, Err, Result, sym, refl, ap, ◌∙◌, append_assoc, append-nil, add-zero, zero-add, arith, length-append}
 use Rattle.std.proofs.lemmas.List.{drop_more, drop-drop, take_at, drop_at, set_at}
+use Rattle.std.proofs.lemmas.List.Folds.{concat-append}
 use Rattle.std.proofs.lemmas.Bool.{and_parts}
 use Rattle.load.specs.declared.loading.Loaded.{Loaded}
 use Rattle.load.specs.Counts.{none, and_frame}
@@ -13,12 +14,8 @@ use Rattle.load.proofs.Judging.{Passed}
 use Rattle.load.proofs.Turns.{turn, stop}
 use Rattle.load.proofs.Values.{bytes_length}
 
-joined_append : (fs gs : List (List ℕ)) → joined (fs ++ gs) ≡ joined fs ++ joined gs
-joined_append [] gs = refl
-joined_append (f ∷ fs) gs = ap (λ l. f ++ l) (joined_append fs gs) ∙ sym (append_assoc f (joined fs) (joined gs))
-
 joined_push : (fs : List (List ℕ)) (f : List ℕ) → joined (fs ++ f ∷ []) ≡ joined fs ++ f
-joined_push fs f = joined_append fs (f ∷ []) ∙ ap (λ l. joined fs ++ l) (append-nil f)
+joined_push fs f = concat-append fs (f ∷ []) ∙ ap (λ l. joined fs ++ l) (append-nil f)
 
 starts_push : (i : ℕ) (fs : List (List ℕ)) (f : List ℕ) → starts_from i (fs ++ f ∷ []) ≡ starts_from i fs ++ (i + length (joined fs)) ∷ []
 starts_push i [] f = ap (λ k. k ∷ []) (sym (add-zero i))
@@ -60,7 +57,7 @@ record First (v : List ℕ) (r : Result (List (List ℕ)) ℕ) (frames : List (L
 
 first : (v : List ℕ) (r : Result (List (List ℕ)) ℕ) (frames : List (List ℕ)) → before v r ≡ Ok frames → First v r frames
 first v (Ok fs) frames e = record { more = fs; left = refl; is = cc }
-first v (Err n) frames e = let z : ◌≡◌ {A = ℕ} 0 1 = cc in absurd (omega arith)
+first v (Err n) frames e = cc
 
 -- how far the pass has come: so many frames are written, and those of the rest are to come
 pub record Filling (text store0 starts0 rest : List ℕ) (n : Loaded) (store starts : List ℕ) : Type 0 where
@@ -112,7 +109,7 @@ module _ (text store0 starts0 rest : List ℕ) (n : Loaded) (store starts : List
 
     fill_stored : n.bytes + length ws / 2 ≤ length store0
     fill_stored =
-        let x = ap (λ fs. length (joined fs)) split ∙ ap length (joined_append (h.done ++ v ∷ []) next.more) ∙ length-append (joined (h.done ++ v ∷ [])) (joined next.more) in
+        let x = ap (λ fs. length (joined fs)) split ∙ ap length (concat-append (h.done ++ v ∷ []) next.more) ∙ length-append (joined (h.done ++ v ∷ [])) (joined next.more) in
         let y = ap length (joined_push h.done v) ∙ length-append (joined h.done) v in
         omega (arith, p.admitted.stored, x, y, bytes_length ws, h.size)
 
@@ -143,8 +140,7 @@ module _ (text store0 starts0 rest : List ℕ) (n : Loaded) (store starts : List
   none_left [] fs unframed e = cc
   none_left (x ∷ s) fs unframed e =
       let broken = stop (n.frames + 1) (x ∷ s) (omega arith) unframed in
-      let z : ◌≡◌ {A = ℕ} 0 1 = cc in
-      absurd (omega arith)
+      cc
 
   pub fill_all : Unframed rest → (store ≡ store_after (loaded (length store0) (length starts0) text) store0) × (starts ≡ starts_after (loaded (length store0) (length starts0) text) starts0)
   fill_all unframed =

@@ -84,7 +84,7 @@ found_before n l rest text frame whole (Err k) f =
     )
 
 some_text : (text : List ℕ) (l : Line) (ls : List Line) → lines text ≡ l ∷ ls → 0 < length text
-some_text [] l ls e = let z : ◌≡◌ {A = ℕ} 0 1 = cc in absurd (omega arith)
+some_text [] l ls e = cc
 some_text (b ∷ bs) l ls e = omega arith
 
 -- the first line is no frame
@@ -102,8 +102,7 @@ found n (unclosed l ∷ ms) text e =
     found_broken n text (some_text text (unclosed l) ms e)
     (λ line behind frame whole.
     let first : lines text ≡ closed line ∷ lines behind = ap lines whole ∙ frame_line line behind (frame_test line frame) in
-    let z : ◌≡◌ {A = ℕ} 0 1 = cc in
-    omega arith)
+    cc)
 found n (closed l ∷ ms) text e =
     let first = begins text l ms e in
     by (is_frame l) refl first (found (n + 1) ms first.rest first.next)

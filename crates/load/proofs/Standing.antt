@@ -5,7 +5,7 @@ use Rattle.std.proofs.lemmas.List.{drop-drop, take_at, drop_at, get_or_append_le
 use Rattle.load.specs.declared.fault.LoadRefusal.{LoadRefusal}
 use Rattle.load.specs.declared.loading.Loaded.{Loaded}
 use Rattle.load.specs.Frames.{Reads}
-use Rattle.load.specs.Laws.{Holds, Loads}
+use Rattle.load.specs.Laws.{Holds, Takes, Loads}
 use Rattle.load.specs.Loading.{joined, starts_from, over_front, loaded, numbers, store_after, starts_after}
 use Rattle.load.proofs.Filling.{starts_length}
 use Rattle.load.proofs.Judging.{Judged, judged}
@@ -64,7 +64,5 @@ module _ (text store starts : List ℕ) where
       (subst (λ s. Loads text store starts (numbers answer) s starts') (sym y)
       (subst (Loads text store starts (numbers answer) (store_after answer store)) (sym z) (loads answer (judged text (length store) (length starts)))))
 
--- a refusal leaves the memory
-pub refusal_keeps : (store starts : List ℕ) (r : Result (List (List ℕ)) LoadRefusal) (e : LoadRefusal) → Err e ≡ numbers r → (store ≡ store_after r store) × (starts ≡ starts_after r starts)
-refusal_keeps store starts (Ok fs) e is = let z : ◌≡◌ {A = ℕ} 0 1 = cc in absurd (omega arith)
-refusal_keeps store starts (Err x) e is = (refl, refl)
+  pub load_takes : (found : Loaded) (store' starts' : List ℕ) → Ok found ≡ numbers answer → store' ≡ store_after answer store → starts' ≡ starts_after answer starts → Takes text store starts found store' starts'
+  load_takes found store' starts' x y z = load_law (Ok found) store' starts' x y z

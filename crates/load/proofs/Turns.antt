@@ -31,27 +31,27 @@ pub record Begins (text l : List ℕ) (ls : List Line) : Type 0 where
   pub next : lines rest ≡ ls
 
 pub begins : (text l : List ℕ) (ls : List Line) → lines text ≡ closed l ∷ ls → Begins text l ls
-begins [] l ls e = let z : ◌≡◌ {A = ℕ} 0 1 = cc in absurd (omega arith)
+begins [] l ls e = cc
 begins (b ∷ bs) l ls e = by (eqb b 10) refl (lines bs) refl (begins bs) e
   where
     by : (t : Bool) → eqb b 10 ≡ t → (ms : List Line) → lines bs ≡ ms → ((k : List ℕ) (ks : List Line) → lines bs ≡ closed k ∷ ks → Begins bs k ks) → cond t (closed [] ∷ ms) (onto b ms) ≡ closed l ∷ ls → Begins (b ∷ bs) l ls
     by true t ms m below e1 = let is : b ≡ 10 = eqb-true b 10 t in record { rest = bs; whole = cc; next = cc }
-    by false t [] m below e1 = let z : ◌≡◌ {A = ℕ} 0 1 = cc in absurd (omega arith)
+    by false t [] m below e1 = cc
     by false t (closed k ∷ ks) m below e1 =
         let more = below k ks m in
         let w : bs ≡ k ++ 10 ∷ more.rest = more.whole in
         let is : b ∷ k ≡ l = cc in
         record { rest = more.rest; whole = ap (λ v. b ∷ v) w ∙ ap (λ v. v ++ 10 ∷ more.rest) is; next = cc more.next }
-    by false t (unclosed k ∷ ks) m below e1 = let z : ◌≡◌ {A = ℕ} 0 1 = cc in absurd (omega arith)
+    by false t (unclosed k ∷ ks) m below e1 = cc
 
 pub some_line : (b : ℕ) (bs : List ℕ) → lines (b ∷ bs) ≡ [] → ⊥
 some_line b bs e = by (eqb b 10) (lines bs) e
   where
     by : (t : Bool) (ms : List Line) → cond t (closed [] ∷ ms) (onto b ms) ≡ [] → ⊥
-    by true ms e1 = let z : ◌≡◌ {A = ℕ} 0 1 = cc in omega arith
-    by false [] e1 = let z : ◌≡◌ {A = ℕ} 0 1 = cc in omega arith
-    by false (closed k ∷ ks) e1 = let z : ◌≡◌ {A = ℕ} 0 1 = cc in omega arith
-    by false (unclosed k ∷ ks) e1 = let z : ◌≡◌ {A = ℕ} 0 1 = cc in omega arith
+    by true ms e1 = cc
+    by false [] e1 = cc
+    by false (closed k ∷ ks) e1 = cc
+    by false (unclosed k ∷ ks) e1 = cc
 
 -- a text that is not empty and does not begin with a frame is broken in its first line
 pub stop : (n : ℕ) (text : List ℕ) → 0 < length text → Unframed text → frames_of n (lines text) ≡ Err n

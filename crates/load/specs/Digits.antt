@@ -1,5 +1,6 @@
 -- Digits, and the bytes that they mean.
-use Rattle.std.specs.Prelude.{ℕ, ◌+◌, ◌-◌, ◌*◌, ◌/◌, Bool, true, cond, ◌&&◌, ◌||◌, List, [], ◌∷◌, ◌++◌, length, take, drop, nat_le}
+use Rattle.std.specs.Prelude.{ℕ, ◌+◌, ◌-◌, ◌*◌, ◌/◌, Bool, cond, ◌&&◌, ◌||◌, List, [], ◌∷◌, ◌++◌, length, take, drop, nat_le}
+use Rattle.std.specs.List.{list_all}
 
 -- 0 to 9, or A to F; no small letters
 abbrev pub is_digit : ℕ → Bool
@@ -11,8 +12,7 @@ value_of b = cond (nat_le 65 b) (b - 55) (b - 48)
 
 -- nothing but digits
 abbrev pub all_digits : List ℕ → Bool
-all_digits [] = true
-all_digits (b ∷ bs) = is_digit b && all_digits bs
+all_digits line = list_all is_digit line
 
 -- two digits to a byte, the high one first; one that is left over means nothing, and no frame has it
 abbrev pub bytes_of : List ℕ → List ℕ

@@ -1,5 +1,6 @@
 -- What load answers, and what it leaves in the store and the starts.
 use Rattle.std.specs.Prelude.{ℕ, ◌+◌, cond, ◌||◌, List, [], ◌∷◌, ◌++◌, length, drop, Ok, Err, Result, nat_lt}
+use Rattle.std.specs.List.{concat}
 use Rattle.load.specs.Lines.{frames_in}
 use Rattle.load.specs.declared.fault.LoadRefusal.{LoadRefusal}
 use Rattle.load.specs.declared.fault.LoadRefusal.TheVariants.{TextTooLong, NotAFrame, NoRoom}
@@ -7,8 +8,7 @@ use Rattle.load.specs.declared.loading.Loaded.{Loaded}
 
 -- the bytes of all frames, one frame behind the other
 abbrev pub joined : List (List ℕ) → List ℕ
-joined [] = []
-joined (f ∷ fs) = f ++ joined fs
+joined fs = concat fs
 
 -- where each frame begins, if the first begins at i
 abbrev pub starts_from : ℕ → List (List ℕ) → List ℕ

@@ -1,5 +1,5 @@
 -- The refusals of load by their numbers, and what is returned with each.
-use Rattle.std.specs.Prelude.{ℕ, [], ◌∷◌}
+use Rattle.std.specs.Prelude.{ℕ, List, [], ◌∷◌, codes}
 use Rattle.refusal.specs.Refusal.{Refusal}
 use Rattle.load.specs.declared.fault.LoadRefusal.{LoadRefusal}
 use Rattle.load.specs.declared.fault.LoadRefusal.TheVariants.{TextTooLong, NotAFrame, NoRoom}
@@ -13,3 +13,9 @@ abbrev pub refusal_of : LoadRefusal → Refusal
 refusal_of TextTooLong = refused 1 0
 refusal_of (NotAFrame n) = refused 2 n
 refusal_of NoRoom = refused 3 0
+
+-- why a text is not loaded, in words
+abbrev pub reason_of : LoadRefusal → List ℕ
+reason_of TextTooLong = codes "the text has over 1048576 bytes"
+reason_of (NotAFrame n) = codes "the line is no frame"
+reason_of NoRoom = codes "there are more frames than a table has"

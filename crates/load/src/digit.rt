@@ -13,12 +13,7 @@ fn is_digit(byte: u8) -> bool
 pub(crate) fn all_digits(line: &[u8]) -> bool
     ensures { result ≡ all_digits line.now }
 {
-    for byte in line {
-        if !is_digit(*byte) {
-            return false;
-        }
-    }
-    true
+    line.iter().all(|byte| is_digit(*byte))
 }
 
 /// The value of a digit, 0 to 15.
@@ -27,6 +22,7 @@ fn value(digit: u8) -> u8
     ensures value { result ≡ value_of digit }
     ensures small { result < 16 }
 {
+    // by hand: `to_digit` is no plainer, as it answers an option of a wider number
     match digit {
         b'0'..=b'9' => digit - b'0',
         _ => digit - b'A' + 10,
@@ -48,7 +44,7 @@ pub(crate) fn decode_into(digits: &[u8], store: &mut [u8], at: usize)
     requires room { at + length digits.now / 2 ≤ length store.old }
     ensures { store.new ≡ decoded digits.now at store.old }
 {
-    for j in 0..digits.len() / 2 {
-        store[at + j] = pair(digits[2 * j], digits[2 * j + 1]);
+    for (j, digits) in digits.chunks_exact(2).enumerate() {
+        store[at + j] = pair(digits[0], digits[1]);
     }
 }

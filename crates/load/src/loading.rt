@@ -9,7 +9,7 @@ ghost use Rattle.load.specs.Loading.{loaded, numbers, store_after, starts_after}
 
 use crate::digit::decode_into;
 use crate::fault::LoadRefusal;
-use crate::line::first_frame;
+use crate::line::Frames;
 
 // The most bytes that a text may have.
 const MAX_TEXT: usize = 1_048_576;
@@ -55,13 +55,13 @@ fn conclude(found: Loaded, rest: &[u8]) -> Result<Loaded, LoadRefusal>
 fn scan(text: &[u8]) -> Result<Loaded, LoadRefusal>
     ensures { result ≡ counted none (frames_in text.now) }
 {
-    let mut rest = text;
     let mut found = NONE;
-    'frames: while let Some(front) = first_frame(rest) {
-        found = found.and_frame(front.digits);
-        rest = front.rest;
+    let mut frames = Frames { rest: text };
+    // the proof of a `for` over `frames.by_ref()` did not close: what is left behind the last frame is looked at afterwards
+    'frames: while let Some(digits) = frames.next() {
+        found = found.and_frame(digits);
     }
-    conclude(found, rest)
+    conclude(found, frames.rest)
 }
 
 /// What would be loaded into a store and a list of starts of these lengths.
@@ -78,6 +78,8 @@ fn admit(text: &[u8], store: usize, starts: usize) -> Result<Loaded, LoadRefusal
     Ok(found)
 }
 
+// No struct of the two memories and the count: it would serve one loop, its methods would have to keep both references, and
+// callers lend the memories apart.
 /// Writes a frame and its start behind those that are written, and counts it.
 fn write_frame(digits: &[u8], store: &mut [u8], starts: &mut [usize], written: Loaded) -> Loaded
     requires digits { all_digits digits.now ≡ true }
@@ -98,11 +100,9 @@ fn fill(text: &[u8], store: &mut [u8], starts: &mut [usize])
     ensures store { store.new ≡ store_after (loaded (length store.old) (length starts.old) text.now) store.old }
     ensures starts { starts.new ≡ starts_after (loaded (length store.old) (length starts.old) text.now) starts.old }
 {
-    let mut rest = text;
     let mut written = NONE;
-    'frames: while let Some(front) = first_frame(rest) {
-        written = write_frame(front.digits, store, starts, written);
-        rest = front.rest;
+    for digits in (Frames { rest: text }) {
+        written = write_frame(digits, store, starts, written);
     }
 }
 
@@ -111,6 +111,7 @@ fn fill(text: &[u8], store: &mut [u8], starts: &mut [usize])
 ///
 /// What is refused is, before all else, a text that is too long; then the first line that is no frame; then a store or
 /// starts that are too short. A refusal writes nothing.
+#[tactic(auto, using(crate::proofs::Standing::load_law, crate::proofs::Standing::load_takes))]
 pub fn load(text: &[u8], store: &mut [u8], starts: &mut [usize]) -> Result<Loaded, LoadRefusal>
     ensures answer { result ≡ numbers (loaded (length store.old) (length starts.old) text.now) }
     ensures store { store.new ≡ store_after (loaded (length store.old) (length starts.old) text.now) store.old }
@@ -123,6 +124,7 @@ pub fn load(text: &[u8], store: &mut [u8], starts: &mut [usize]) -> Result<Loade
 }
 
 /// What the frames of a text are, in words. It does nothing; its contract is the law.
+#[tactic(auto, using(crate::proofs::Reading::text_law))]
 pub fn text_law(text: &[u8])
     ensures { TextLaw text.now (frames_in text.now) }
 {}

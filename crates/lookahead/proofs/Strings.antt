@@ -16,7 +16,7 @@ pub strip_token : (a : ℕ) (y : List ℕ) → NoMark a → strip (a ∷ y) ≡ 
 strip_token a y n = cond-false (eqb a 31) [] (a ∷ strip y) (ne_eqb a 31 n)
 
 none_some : {a : ℕ} {y : List ℕ} → [] ≡ a ∷ y → ⊥
-none_some e = let z : ◌≡◌ {A = ℕ} 0 1 = cc in omega arith
+none_some e = cc
 
 module _ (h : Header) where
   pub token_range : (a : ℕ) → is_token h a ≡ true → (1 ≤ a) × (a ≤ h.t)

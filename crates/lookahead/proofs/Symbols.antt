@@ -16,7 +16,7 @@ use Rattle.lookahead.specs.Theorems.{SymbolsFirst}
 
 module _ (g : Grammar) (wf : WellFormed g) (a : ℕ) (t : IsToken g a) where
   token_stays : {α rs u : List ℕ} → Run g α rs u → α ≡ a ∷ [] → u ≡ a ∷ []
-  token_stays done e = let z : ◌≡◌ {A = ℕ} 0 1 = cc in absurd (omega arith)
+  token_stays done e = absurd cc
   token_stays (token p d) e = ap₂ (λ (x : ℕ) (xs : List ℕ). x ∷ xs) (head_is e) (run_nil g (same_symbols g (tail_is e) d)).1
   token_stays (rule {A = A} {r = r} ρ i l d) e =
       let n = wf.left_side r ρ i in

@@ -8,14 +8,15 @@ ghost use Rattle.lookahead.specs.Stored.{with_choice, with_choices, StandsForCho
 
 use crate::entries::with_entry;
 use solver::Value;
+use symbols::Word;
 use words::Words;
 
 // The set with the word of an entry put in, if the entry chooses the rule.
-fn with_choice<const K: usize>(rule: u8, set: Words<K>, a: u8, b: u8, chosen: u8) -> Words<K>
-    ensures { result ≡ with_choice rule set.entry a b chosen }
+fn with_choice<const K: usize>(rule: u8, set: Words<K>, word: Word, chosen: u8) -> Words<K>
+    ensures { result ≡ with_choice rule set.entry word.first word.second chosen }
 {
     if chosen == rule {
-        with_entry(set, a, b)
+        with_entry(set, word)
     } else {
         set
     }
@@ -27,16 +28,13 @@ pub fn chosen<const K: usize>(entries: &[u8], rule: u8) -> Words<K>
     ensures stands { (h : Header) → h.k ≡ cut K → h.t ≤ 20 → AllChoices h entries.now → StandsForChoices h result entries.now rule }
 {
     let mut found = Words::<K>::bottom();
-    let mut at = 0;
-    'entries: while at + 3 < entries.len() {
-        found = with_choice(
-            rule,
-            found,
-            entries[at + 1],
-            entries[at + 2],
-            entries[at + 3],
-        );
-        at += 4;
+    // a loop like that of `words_of`: one for both would take a closure and a contract of what it picks, and be no plainer
+    for entry in entries.chunks_exact(4) {
+        let word = Word {
+            first: entry[1],
+            second: entry[2],
+        };
+        found = with_choice(rule, found, word, entry[3]);
     }
     found
 }

@@ -7,33 +7,32 @@ ghost use Rattle.lookahead.specs.Entries.{AllWords};
 ghost use Rattle.lookahead.specs.Stored.{first_number, second_number, with_entry, with_entries, StandsFor};
 
 use solver::Value;
+use symbols::{END_MARK, Word};
 use words::Words;
 
-/// The mark behind the last token.
-const END_MARK: u8 = 31;
-
-// The two numbers of a stored word: those of its tokens before the end mark.
-fn numbers(a: u8, b: u8) -> (u8, u8)
-    ensures first { result.0 ≡ first_number a }
-    ensures second { result.1 ≡ second_number a b }
+// The word of an entry without its end mark.
+fn stored(word: Word) -> Word
+    ensures first { result.first ≡ first_number word.first }
+    ensures second { result.second ≡ second_number word.first word.second }
 {
-    if a == END_MARK {
-        (0, 0)
-    } else if b == END_MARK {
-        (a, 0)
+    if word.first == END_MARK {
+        Word {
+            first: 0,
+            second: 0,
+        }
+    } else if word.second == END_MARK {
+        Word { second: 0, ..word }
     } else {
-        (a, b)
+        word
     }
 }
 
 // The set with the word of an entry put in.
-pub fn with_entry<const K: usize>(set: Words<K>, a: u8, b: u8) -> Words<K>
-    ensures { result ≡ with_entry set.entry a b }
+pub(crate) fn with_entry<const K: usize>(mut set: Words<K>, word: Word) -> Words<K>
+    ensures { result ≡ with_entry set.entry word.first word.second }
 {
-    let (first, second) = numbers(a, b);
-    let mut found = set;
-    found.insert(first, second);
-    found
+    set.insert(stored(word));
+    set
 }
 
 /// The words of entries of two bytes, the second 0 where there is none.
@@ -42,10 +41,12 @@ pub fn words_of<const K: usize>(entries: &[u8]) -> Words<K>
     ensures stands { (h : Header) → h.k ≡ cut K → h.t ≤ 20 → AllWords h entries.now → StandsFor h result entries.now }
 {
     let mut found = Words::<K>::bottom();
-    let mut at = 0;
-    'entries: while at + 1 < entries.len() {
-        found = with_entry(found, entries[at], entries[at + 1]);
-        at += 2;
+    for entry in entries.chunks_exact(2) {
+        let word = Word {
+            first: entry[0],
+            second: entry[1],
+        };
+        found = with_entry(found, word);
     }
     found
 }

@@ -4,8 +4,6 @@ ghost use Rattle.lookahead.specs.Theorems.{SymbolsFirst, EqualWords, NextWords, 
 /// The theorems of stored words: a symbol's value is FIRST of it; sets are equal just when the words are the same; a set
 /// is the product of FIRST(X) and another just when its words are FIRST(X words of the other); and sets meet just when a
 /// word is in both.
-pub fn lookahead_stands<const K: usize>() -> u8
+pub fn lookahead_stands<const K: usize>()
     ensures { SymbolsFirst K × EqualWords K × NextWords K × WordsMeet K }
-{
-    0
-}
+{}

@@ -7,19 +7,16 @@ use Rattle.std.proofs.lemmas.Bool.{cond-true, cond-false, le-leb, lt-leb}
 use Rattle.std.proofs.lemmas.Bool.Decides.{nat_tests}
 use Rattle.byte_classes.specs.Classes.{class_of, letter, digit}
 use Rattle.byte_classes.specs.Keywords.{keyword_of}
-use Rattle.byte_classes.specs.declared.class.Class.{Class}
 use Rattle.byte_classes.specs.declared.class.Class.TheVariants.{Letter, Digit}
 use Rattle.source.specs.Meaning.{Last}
-use Rattle.source.specs.declared.token.Place.TheVariants.{Two}
 use Rattle.sheet.specs.Faults.{fault_number}
 use Rattle.sheet.specs.Kinds.{mark_kind, word_kind}
 use Rattle.sheet.specs.Places.{Position, place, moved, along}
 use Rattle.sheet.specs.Reads.{Begins, Run, Lexical, Wrong, Reads, is_number, is_word, is_name, is_mark, is_line_end, is_comment, no_class, open_quote, long_number, long_word, at_end, skips, takes, breaks}
-use Rattle.sheet.specs.Scan.{Front, Spot, Scanned, gap, token, fault, limited, closed, by_class, front, before, line_after, column_after, go_on, scan_from}
-use Rattle.sheet.specs.Spans.{member}
+use Rattle.sheet.specs.Scan.{Spot, Scanned, token, fault, limited, closed, by_class, front, before, line_after, column_after, go_on, scan_from}
+use Rattle.sheet.specs.Runs.{in_name, in_comment}
 use Rattle.sheet.specs.declared.fault.ScanFault.{ScanFault}
 use Rattle.sheet.specs.declared.fault.ScanFault.TheVariants.{NoClass, OpenQuote, Oversized}
-use Rattle.sheet.specs.declared.span.Span.TheVariants.{Letters, Digits, Name, Comment}
 use Rattle.sheet.proofs.Positions.{moved_blank, lexical_moves}
 use Rattle.sheet.proofs.Runs.{leading_run}
 use Rattle.sheet.proofs.Steps.{blank_class, token_step, fault_step}
@@ -31,18 +28,18 @@ digit_class : (b : ℕ) → digit b ≡ true → class_of b ≡ Digit
 digit_class b e = grind (arith, nat_tests)
 
 -- a run that is not empty decides the class of the first byte
-letters_front : (w rest : List ℕ) → Run (member Letters) w rest → 0 < length w → front (w ++ rest) ≡ limited (word_kind (keyword_of w)) (length w)
+letters_front : (w rest : List ℕ) → Run letter w rest → 0 < length w → front (w ++ rest) ≡ limited (word_kind (keyword_of w)) (length w)
 letters_front [] rest r some = absurd (omega arith)
 letters_front (b ∷ w) rest r some =
     let s = (b ∷ w) ++ rest in
     ap (λ k. by_class k s) (letter_class b r.all.0)
-    ∙ ap (λ n. limited (word_kind (keyword_of (take n s))) n) (leading_run (member Letters) (b ∷ w) rest r)
+    ∙ ap (λ n. limited (word_kind (keyword_of (take n s))) n) (leading_run letter (b ∷ w) rest r)
     ∙ ap (λ v. limited (word_kind (keyword_of v)) (length (b ∷ w))) (take_at (b ∷ w) rest (length (b ∷ w)) refl)
 
-digits_front : (w rest : List ℕ) → Run (member Digits) w rest → 0 < length w → front (w ++ rest) ≡ limited 1 (length w)
+digits_front : (w rest : List ℕ) → Run digit w rest → 0 < length w → front (w ++ rest) ≡ limited 1 (length w)
 digits_front [] rest r some = absurd (omega arith)
 digits_front (b ∷ w) rest r some =
-    ap (λ k. by_class k ((b ∷ w) ++ rest)) (digit_class b r.all.0) ∙ ap (limited 1) (leading_run (member Digits) (b ∷ w) rest r)
+    ap (λ k. by_class k ((b ∷ w) ++ rest)) (digit_class b r.all.0) ∙ ap (limited 1) (leading_run digit (b ∷ w) rest r)
 
 within : (kind n : ℕ) → n ≤ 32 → limited kind n ≡ token kind n
 within kind n h = cond-true (leb n 32) (token kind n) (fault Oversized) (le-leb n 32 h)
@@ -51,19 +48,19 @@ beyond : (kind n : ℕ) → 32 < n → limited kind n ≡ fault Oversized
 beyond kind n h = cond-false (leb n 32) (token kind n) (fault Oversized) (lt-leb n 32 h)
 
 -- behind a quote and the bytes of a name
-quote_front : (inner rest : List ℕ) → Run (member Name) inner rest → front (34 ∷ (inner ++ rest)) ≡ closed (length inner) rest
+quote_front : (inner rest : List ℕ) → Run in_name inner rest → front (34 ∷ (inner ++ rest)) ≡ closed (length inner) rest
 quote_front inner rest r =
-    ap (λ n. closed n (drop n (inner ++ rest))) (leading_run (member Name) inner rest r)
+    ap (λ n. closed n (drop n (inner ++ rest))) (leading_run in_name inner rest r)
     ∙ ap (closed (length inner)) (drop_at inner rest (length inner) refl)
 
-comment_front_is : (inner rest : List ℕ) → Run (member Comment) inner rest → front (35 ∷ (inner ++ rest)) ≡ token 16 (suc (length inner))
+comment_front_is : (inner rest : List ℕ) → Run in_comment inner rest → front (35 ∷ (inner ++ rest)) ≡ token 16 (suc (length inner))
 comment_front_is inner rest r =
-    ap (token 16) (one-add (prefix_len (member Comment) (inner ++ rest)) ∙ ap suc (leading_run (member Comment) inner rest r))
+    ap (token 16) (one-add (prefix_len in_comment (inner ++ rest)) ∙ ap suc (leading_run in_comment inner rest r))
 
 abbrev Found : ℕ → List ℕ → List ℕ → Type 0
 Found kind w rest = (front (w ++ rest) ≡ token kind (length w)) × (0 < length w)
 
-name_found : (inner rest : List ℕ) → Run (member Name) inner (34 ∷ rest) → Found 3 (34 ∷ (inner ++ 34 ∷ [])) rest
+name_found : (inner rest : List ℕ) → Run in_name inner (34 ∷ rest) → Found 3 (34 ∷ (inner ++ 34 ∷ [])) rest
 name_found inner rest r =
     let long : length inner + 2 ≡ length (34 ∷ (inner ++ 34 ∷ [])) = omega (arith, length-append inner (34 ∷ [])) in (
       ap (λ v. front (34 ∷ v)) (append_assoc inner (34 ∷ []) rest) ∙ quote_front inner (34 ∷ rest) r ∙ ap (token 3) long,

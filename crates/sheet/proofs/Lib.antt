@@ -1,5 +1,4 @@
 pub mod Alone
-pub mod Fronts
 pub mod Laws
 pub mod Positions
 pub mod Reading

@@ -4,7 +4,7 @@ use Rattle.std.specs.List.{AllByRecursion}
 use Rattle.std.proofs.ByRecursion.{All-append, All-weaker}
 use Rattle.std.proofs.lemmas.Bool.{cond-false}
 use Rattle.std.proofs.lemmas.Bool.Decides.{nat_tests}
-use Rattle.byte_classes.specs.Classes.{class_of, blank}
+use Rattle.byte_classes.specs.Classes.{class_of, blank, letter, digit}
 use Rattle.byte_classes.specs.declared.class.Class.TheVariants.{Mark}
 use Rattle.byte_classes.specs.declared.class.Mark as mark
 use Rattle.byte_classes.specs.declared.class.Mark.TheVariants.{Colon, Equals, Comma, Semicolon, Minus}
@@ -15,8 +15,7 @@ use Rattle.sheet.specs.Kinds.{mark_kind, word_kind}
 use Rattle.sheet.specs.Places.{Position, moved, along}
 use Rattle.sheet.specs.Reads.{Lexical, is_number, is_word, is_name, is_mark, is_line_end, is_comment}
 use Rattle.sheet.specs.Scan.{line_after, column_after}
-use Rattle.sheet.specs.Spans.{member}
-use Rattle.sheet.specs.declared.span.Span.TheVariants.{Letters, Digits, Name, Comment}
+use Rattle.sheet.specs.Runs.{in_name, in_comment}
 
 pub along_append : (p : Position) (xs ys : List ℕ) → along p (xs ++ ys) ≡ along (along p xs) ys
 along_append p [] ys = refl
@@ -43,16 +42,16 @@ blank_plain b e = grind (arith, nat_tests)
 pub moved_blank : (p : Position) (b : ℕ) → blank b ≡ true → moved p b ≡ (p.0, p.1 + 1)
 moved_blank p b e = moved_plain p b (blank_plain b e)
 
-letter_plain : (b : ℕ) → member Letters b ≡ true → Plain b
+letter_plain : (b : ℕ) → letter b ≡ true → Plain b
 letter_plain b e = grind (arith, nat_tests)
 
-digit_plain : (b : ℕ) → member Digits b ≡ true → Plain b
+digit_plain : (b : ℕ) → digit b ≡ true → Plain b
 digit_plain b e = grind (arith, nat_tests)
 
-name_plain : (b : ℕ) → member Name b ≡ true → Plain b
+name_plain : (b : ℕ) → in_name b ≡ true → Plain b
 name_plain b e = grind (arith, nat_tests)
 
-comment_plain : (b : ℕ) → member Comment b ≡ true → Plain b
+comment_plain : (b : ℕ) → in_comment b ≡ true → Plain b
 comment_plain b e = grind (arith, nat_tests)
 
 mark_plain : (b : ℕ) (m : mark.Mark) → class_of b ≡ Mark m → Plain b

@@ -2,10 +2,8 @@
 -- run that a text begins with.
 use Rattle.std.proofs.Common.{◌≡◌, ℕ, suc, ◌+◌, Bool, true, false, cond, List, [], ◌∷◌, ◌++◌, length, take, drop, sym, refl, ap, ◌∙◌, subst, one-add}
 use Rattle.std.specs.List.{prefix_len}
-use Rattle.std.proofs.lemmas.List.{length-take-le}
-use Rattle.std.proofs.lemmas.List.Sums.{prefix_len-le-length}
 use Rattle.std.proofs.lemmas.Bool.{both_ways, cond-true, cond-false}
-use Rattle.sheet.specs.Reads.{Begins, Run}
+use Rattle.sheet.specs.Reads.{Run}
 
 pub run : (p : ℕ → Bool) (s : List ℕ) → Run p (take (prefix_len p s) s) (drop (prefix_len p s) s)
 run p [] = record { all = tt; longest = λ h. h }
@@ -19,9 +17,6 @@ run p (b ∷ bs) = by (p b) refl (run p bs)
         subst (λ k. Run p (take k (b ∷ bs)) (drop k (b ∷ bs))) (sym (one-add n))
         (record { all = (e, more.all); longest = more.longest })
     by false e more = record { all = tt; longest = λ h. both_ways (p b) e h }
-
-pub length_run : (p : ℕ → Bool) (s : List ℕ) → length (take (prefix_len p s) s) ≡ prefix_len p s
-length_run p s = length-take-le (prefix_len p s) s (prefix_len-le-length p s)
 
 refused : (t : Bool) → (t ≡ true → ⊥) → t ≡ false
 refused true h = absurd (h refl)

@@ -1,5 +1,5 @@
 -- Tokens that the relation names stand where their places say: the place of what is left is always the one behind what was read.
-use Rattle.std.proofs.Common.{◌≡◌, ℕ, List, [], ◌∷◌, ◌++◌, sym, refl, ap, ◌∙◌, append_assoc, append-nil}
+use Rattle.std.proofs.Common.{◌≡◌, ℕ, List, [], ◌∷◌, ◌++◌, sym, ap, ◌∙◌, append_assoc, append-nil}
 use Rattle.std.specs.List.{AllByRecursion}
 use Rattle.source.specs.Meaning.{Last}
 use Rattle.sheet.specs.Places.{Position, place, moved, along, Stands, Stops}

@@ -1,7 +1,7 @@
 pub mod Faults
 pub mod Kinds
 pub mod Lexemes
-pub mod Spans
+pub mod Runs
 pub mod Scan
 pub mod Pieces
 pub mod Scanners

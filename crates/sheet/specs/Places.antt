@@ -1,5 +1,5 @@
 -- Where the tokens of a sheet stand, counted byte by byte.
-use Rattle.std.specs.Prelude.{◌≡◌, ℕ, ◌+◌, cond, List, [], ◌++◌, fold, ◌==◌}
+use Rattle.std.specs.Prelude.{◌≡◌, ℕ, ◌+◌, cond, List, ◌++◌, fold, ◌==◌}
 use Rattle.source.specs.Meaning.{Last, ends, faults}
 use Rattle.source.specs.declared.token.Place.{Place}
 use Rattle.source.specs.declared.token.Place.TheVariants.{Two}

@@ -1,7 +1,7 @@
 -- The tokens of a sheet as a function: from the front of a text, one after the other. `Reads` says the same as a relation.
 use Rattle.std.specs.Prelude.{ℕ, zero, suc, ◌+◌, ◌-◌, cond, List, [], ◌∷◌, take, drop, ◌==◌, nat_le}
 use Rattle.std.specs.List.{prefix_len}
-use Rattle.byte_classes.specs.Classes.{class_of}
+use Rattle.byte_classes.specs.Classes.{class_of, letter, digit}
 use Rattle.byte_classes.specs.Keywords.{keyword_of}
 use Rattle.byte_classes.specs.declared.class.Class.{Class}
 use Rattle.byte_classes.specs.declared.class.Class.TheVariants.{Letter, Digit, Blank, LineEnd, Mark, Quote, Hash, Other}
@@ -9,10 +9,9 @@ use Rattle.source.specs.Meaning.{Last, ends, faults}
 use Rattle.source.specs.declared.token.Place.{Place}
 use Rattle.source.specs.declared.token.Place.TheVariants.{Two}
 use Rattle.sheet.specs.Kinds.{mark_kind, word_kind}
-use Rattle.sheet.specs.Spans.{member}
+use Rattle.sheet.specs.Runs.{in_name, in_comment}
 use Rattle.sheet.specs.declared.fault.ScanFault.{ScanFault}
 use Rattle.sheet.specs.declared.fault.ScanFault.TheVariants.{NoClass, OpenQuote, Oversized}
-use Rattle.sheet.specs.declared.span.Span.TheVariants.{Letters, Digits, Name, Comment}
 
 -- what stands at the front of a text: nothing, a blank, a token of some kind and length, or a fault
 pub data Front : Type 0 where
@@ -27,15 +26,15 @@ limited kind len = cond (nat_le len 32) (token kind len) (fault Oversized)
 
 -- letters, as many as there are
 abbrev pub word_front : List ℕ → Front
-word_front s = let n = prefix_len (member Letters) s in limited (word_kind (keyword_of (take n s))) n
+word_front s = let n = prefix_len letter s in limited (word_kind (keyword_of (take n s))) n
 
 -- digits, as many as there are
 abbrev pub number_front : List ℕ → Front
-number_front s = limited 1 (prefix_len (member Digits) s)
+number_front s = limited 1 (prefix_len digit s)
 
 -- a hash, and all up to the line end
 abbrev pub comment_front : List ℕ → Front
-comment_front s = token 16 (prefix_len (member Comment) s)
+comment_front s = token 16 (prefix_len in_comment s)
 
 -- what follows the n bytes of a name has to be its second quote
 abbrev pub closed : ℕ → List ℕ → Front
@@ -44,7 +43,7 @@ closed n (b ∷ bs) = cond (b == 34) (token 3 (n + 2)) (fault OpenQuote)
 
 -- a quote, the name's bytes, and a quote
 abbrev pub name_front : List ℕ → Front
-name_front s = let n = prefix_len (member Name) (drop 1 s) in closed n (drop n (drop 1 s))
+name_front s = let n = prefix_len in_name (drop 1 s) in closed n (drop n (drop 1 s))
 
 -- the front of a text whose first byte is of this class
 abbrev pub by_class : Class → List ℕ → Front

@@ -17,12 +17,12 @@ pub enum ScanFault {
 impl Numbered for ScanFault {
     ghost number = { fault_number };
 
-    fn number(&self) -> u8 {
-        match self {
+    fn number_of(fault: Option<&ScanFault>) -> Option<u8> {
+        fault.map(|fault| match fault {
             ScanFault::NoClass => 19,
             ScanFault::OpenQuote => 20,
             ScanFault::Oversized => 21,
-        }
+        })
     }
 }
 

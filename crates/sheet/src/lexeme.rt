@@ -1,8 +1,10 @@
 //! Lexemes.
 ghost use Rattle.std.specs.Prelude.{◌≡◌, ◌==◌};
 ghost use Rattle.sheet.specs.Lexemes.{kind_of, text_of};
+ghost use Rattle.sheet.specs.Scanners.{spot_of, token_of};
 
 use byte_classes::{Keyword, Mark};
+use source::{Place, Token};
 
 /// A token with the part of the sheet that it stands for. A name's quotes and a comment's hash are part of it.
 #[derive(Clone, Copy)]
@@ -22,13 +24,13 @@ impl<'a> Lexeme<'a> {
         ensures { result.now ≡ text_of self.entry }
     {
         match self {
-            Lexeme::Number(text) => text,
-            Lexeme::Word(text) => text,
-            Lexeme::Name(text) => text,
-            Lexeme::Mark(_, text) => text,
-            Lexeme::Keyword(_, text) => text,
-            Lexeme::LineEnd(text) => text,
-            Lexeme::Comment(text) => text,
+            Lexeme::Number(text)
+            | Lexeme::Word(text)
+            | Lexeme::Name(text)
+            | Lexeme::Mark(_, text)
+            | Lexeme::Keyword(_, text)
+            | Lexeme::LineEnd(text)
+            | Lexeme::Comment(text) => text,
         }
     }
 
@@ -60,9 +62,24 @@ impl<'a> Lexeme<'a> {
     pub fn is_line_end(self) -> bool
         ensures { result ≡ (kind_of self.entry == 15) }
     {
-        match self {
-            Lexeme::LineEnd(_) => true,
-            _ => false,
+        matches!(self, Lexeme::LineEnd(_))
+    }
+}
+
+/// A lexeme, and the place of its first byte.
+#[derive(Clone, Copy)]
+pub struct PlacedLexeme<'a> {
+    pub lexeme: Lexeme<'a>,
+    pub place: Place,
+}
+
+impl<'a> From<PlacedLexeme<'a>> for Token {
+    ghost from_gives = { λ x t. t ≡ token_of (spot_of x) };
+
+    fn from(placed: PlacedLexeme<'a>) -> Token {
+        Token {
+            kind: placed.lexeme.kind(),
+            place: placed.place,
         }
     }
 }

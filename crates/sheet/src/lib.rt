@@ -4,10 +4,10 @@
 mod cut;
 mod fault;
 mod lexeme;
+mod position;
+mod run;
 mod scanner;
-mod span;
 
 pub use fault::ScanFault;
-pub use lexeme::Lexeme;
+pub use lexeme::{Lexeme, PlacedLexeme};
 pub use scanner::Scanner;
-pub use scanner::next::Item;

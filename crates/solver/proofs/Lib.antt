@@ -1,4 +1,3 @@
 pub mod Order
-pub mod Products
 pub mod Turns
 pub mod YesCut

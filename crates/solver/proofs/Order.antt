@@ -1,5 +1,5 @@
 -- The order that a join makes. Joins and products are monotone in it, since products spread over joins; so the equations are.
-use Rattle.std.proofs.Common.{◌≡◌, ℕ, zero, suc, ◌<◌, ◌≤◌, true, false, cond, eqb, ltb, List, [], ◌∷◌, sym, ap, ◌∙◌, ⊎_elim, arith}
+use Rattle.std.proofs.Common.{◌≡◌, ℕ, zero, suc, ◌<◌, ◌≤◌, true, false, cond, eqb, ltb, List, [], ◌∷◌, sym, ap, ◌∙◌, ⊎_elim}
 use mathlib.Core.Option.{some}
 use Rattle.std.proofs.lemmas.Bool.{cases_lt, lt-ltb, le-ltb, eq-eqb, cond-true, cond-false}
 use Rattle.grammar.specs.Grammar.{Rule, rule_at}
@@ -66,7 +66,7 @@ module _ {V : Type 0} {o : Kind V} {height : V → ℕ} {chain : ℕ} (laws : La
   -- the product of a rule of A lies below what the rules give A
   pub rule_below : (S : ℕ → V) (ρs : List Rule) (r : ℕ) (ρ : Rule) (A : ℕ) → rule_at ρs r ≡ some ρ → ρ.left ≡ A
       → Below o (product_of o S ρ.right) (join_of o S ρs A)
-  rule_below S [] r ρ A i e = let z : ◌≡◌ {A = ℕ} 0 1 = cc in absurd (omega arith)
+  rule_below S [] r ρ A i e = absurd cc
   rule_below S (τ ∷ ρs) (suc r) ρ A i e =
       below_trans _ (join_of o S ρs A) _ (rule_below S ρs r ρ A i e) (below_right (share o S A τ) (join_of o S ρs A))
   rule_below S (τ ∷ ρs) zero ρ A i e =

@@ -11,7 +11,7 @@ use Rattle.grammar.specs.Grammar.{Grammar, IsNonterminal, rule_at}
 use Rattle.grammar.specs.Equations.{Kind, product_of, join_of, applied, Solves, Least, at_bottom, by_rule}
 use Rattle.solver.specs.Laws.{Laws}
 use Rattle.solver.specs.Solution.{rule_of, rules_of, valuation}
-use Rattle.solver.specs.Rounds.{Below, with_rule, AllBottom, Rising, Settled}
+use Rattle.solver.specs.Rounds.{Below, with_rule, AllBottom, Rising, RisingTo, Settled}
 use Rattle.solver.specs.declared.rule.Rule.{Rule}
 use Rattle.solver.proofs.Order.{Under, below_refl, below_trans, below_antisym, below_left, below_join, below_bottom, products_mono, joins_mono, rule_below}
 
@@ -152,6 +152,12 @@ module _ {V : Type 0} {o : Kind V} {height : V → ℕ} {chain : ℕ} (laws : La
       below_rules = step_below_rules;
       below_solutions = step_below_solutions;
     }
+
+  pub rising_to_more : (ρs : List Rule) (vs ws : List V) (j : ℕ) (d : Rule) → j < length ρs → RisingTo o ρs vs
+      → ws ≡ with_rule o (get_or ρs j d) vs → RisingTo o ρs ws
+  rising_to_more ρs vs ws j d within rising is γ rules size =
+      let before : γ.n ≡ length vs = size ∙ ap length is ∙ with_length o (get_or ρs j d) vs in
+      subst (Rising o γ) (sym is) (rising_more γ ρs vs rules before (rising γ rules before) j d within)
 
   -- values that a rule changes are higher in sum
   pub heights_rise : (ρ : Rule) (vs : List V) → (with_rule o ρ vs ≡ vs → ⊥) → sum_by height vs < sum_by height (with_rule o ρ vs)

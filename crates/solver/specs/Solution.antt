@@ -1,12 +1,12 @@
 -- A list of values as the least solution of the equations of some rules.
-use Rattle.std.specs.Prelude.{◌≡◌, ℕ, ◌-◌, List, map, length, take, slice_index_or}
+use Rattle.std.specs.Prelude.{◌≡◌, ℕ, ◌-◌, List, map, length, slice_index_or}
 use Rattle.grammar.specs.Grammar as grammar
 use Rattle.grammar.specs.Equations.{Kind, Least}
 use Rattle.solver.specs.declared.rule.Rule.{Rule}
 
--- A rule as a grammar has it: its right side is the first len symbols, or all where there are no more.
+-- A rule as a grammar has it.
 abbrev pub rule_of : Rule → grammar.Rule
-rule_of ρ = record { left = ρ.left; right = take ρ.len ρ.right }
+rule_of ρ = record { left = ρ.left; right = ρ.right.now }
 
 -- The rules as a grammar has them.
 abbrev pub rules_of : List Rule → List grammar.Rule

@@ -10,7 +10,7 @@ mod rule;
 mod value;
 mod yes;
 
-pub use rounds::solve;
+pub use rounds::{solve, symbol_value};
 pub use rule::Rule;
 pub use value::Value;
 pub use yes::{Yes, productive};

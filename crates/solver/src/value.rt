@@ -4,22 +4,19 @@ ghost use Rattle.grammar.specs.Equations.{Kind};
 ghost use Rattle.solver.specs.Laws.{Laws};
 
 /// A kind of value. Its ghost members say what the operations are, which laws they have, and how high a value is: a join
-/// that changes a value raises it, and none is higher than `CHAIN`, so that no value changes more often than that.
-pub trait Value: Copy {
+/// that changes a value raises it, and none is higher than `CHAIN`, so that no value changes more often than that. `==`
+/// holds just of equal values.
+pub trait Value: Copy + PartialEq {
     ghost kind: { Kind Self };
 
     ghost height: { Self → ℕ };
 
-    ghost chain: { ℕ };
+    ghost CHAIN: { ℕ };
 
-    ghost laws: { Laws kind height chain };
+    ghost laws: { Laws kind height CHAIN };
 
     /// The longest rising chain of values.
     const CHAIN: usize;
-
-    /// `CHAIN`, which no clause can cite.
-    fn chain_length() -> usize
-        ensures { result ≡ chain };
 
     /// The value of no string at all.
     fn bottom() -> Self
@@ -41,7 +38,5 @@ pub trait Value: Copy {
     fn times(self, other: Self) -> Self
         ensures { result ≡ kind.product self other };
 
-    /// Whether the two are equal.
-    fn same(self, other: Self) -> bool
-        ensures { Decides result (self ≡ other) };
+    ghost equals: { (x y : Self) → Decides (Self.PartialEq.eq x y) (x ≡ y) };
 }

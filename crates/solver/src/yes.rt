@@ -1,5 +1,6 @@
 //! Yes and no: which nonterminals derive some token string.
 ghost use Rattle.std.specs.Prelude.{◌≡◌, length};
+ghost use Rattle.std.proofs.Common.{rules};
 ghost use Rattle.solver.specs.Solution.{LeastOf};
 ghost use Rattle.solver.specs.YesKind.{yes_kind, yes_height, TellsProductive};
 ghost use Rattle.solver.specs.YesLaws.{yes_laws};
@@ -9,7 +10,7 @@ use crate::rule::Rule;
 use crate::value::Value;
 
 /// Whether there is a token string.
-#[derive(Clone, Copy)]
+#[derive(Clone, Copy, PartialEq, Eq)]
 pub struct Yes(pub bool);
 
 impl Value for Yes {
@@ -17,15 +18,11 @@ impl Value for Yes {
 
     ghost height = { yes_height };
 
-    ghost chain = { 1 };
+    ghost CHAIN = { 1 };
 
     ghost laws = { yes_laws };
 
     const CHAIN: usize = 1;
-
-    fn chain_length() -> usize {
-        Self::CHAIN
-    }
 
     fn bottom() -> Yes {
         Yes(false)
@@ -47,14 +44,12 @@ impl Value for Yes {
         Yes(self.0 & other.0)
     }
 
-    fn same(self, other: Yes) -> bool {
-        self.0 == other.0
-    }
+    ghost equals = { Prim.search rules };
 }
 
 /// Says of each nonterminal whether it derives some token string. The values are those of 32, 33 and so on, and what they
 /// were before does not count.
-pub fn productive(rules: &[Rule], values: &mut [Yes])
+pub fn productive(rules: &[Rule<'_>], values: &mut [Yes])
     ensures tells { TellsProductive rules.now values.new }
     ensures as_many { length values.new ≡ length values.old }
 {
@@ -62,8 +57,9 @@ pub fn productive(rules: &[Rule], values: &mut [Yes])
     least_tells(rules, values);
 }
 
-// A step of the proof, which does nothing: the least solution in yes and no tells what is productive.
-fn least_tells(_rules: &[Rule], _values: &[Yes])
+// A step of the proof, which does nothing: the least solution in yes and no tells what is productive. With the lemma named on
+// `productive` in its place, the proof did not close.
+fn least_tells(_rules: &[Rule<'_>], _values: &[Yes])
     requires { LeastOf yes_kind _rules.now _values.now }
     ensures { TellsProductive _rules.now _values.now }
 {}

@@ -17,13 +17,13 @@ pub record Meaning (F : Type 0) : Type 0 where
   pub last : Last F
 
 -- the first of these tokens, or the last entry where there is none
-abbrev pub first : {F : Type 0} → List Token → Last F → Result Entry (Faulted F)
+abbrev pub first : {F : Type 0} → List Token → Last F → Result (Entry Token) (Faulted F)
 first [] (ends p) = Ok (End p)
 first [] (faults f) = Err f
 first (t ∷ ts) l = Ok (Given t)
 
 -- what a source of this meaning answers when it is asked
-abbrev pub answer : {F : Type 0} → Meaning F → Result Entry (Faulted F)
+abbrev pub answer : {F : Type 0} → Meaning F → Result (Entry Token) (Faulted F)
 answer m = first m.tokens m.last
 
 -- what it means afterwards: the first token is gone, the last entry stays
@@ -31,6 +31,6 @@ abbrev pub rest : {F : Type 0} → Meaning F → Meaning F
 rest m = record { tokens = drop 1 m.tokens; last = m.last }
 
 -- a source that meant m was asked, answered r, and means m' now
-pub record Asked {F : Type 0} (m : Meaning F) (r : Result Entry (Faulted F)) (m' : Meaning F) : Type 0 where
+pub record Asked {F : Type 0} (m : Meaning F) (r : Result (Entry Token) (Faulted F)) (m' : Meaning F) : Type 0 where
   pub answers : r ≡ answer m
   pub leaves : m' ≡ rest m

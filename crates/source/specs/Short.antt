@@ -1,6 +1,6 @@
 -- No source has more than 60,000 tokens to come. The proofs stand here since the trait asks each source for one.
-use Rattle.std.specs.Prelude.{◌≡◌, ℕ, suc, ◌+◌, ◌-◌, ◌≤◌, Bool, true, false, cond, not, List, [], ◌∷◌, length, drop, Some, None, Option, ◌==◌, refl}
-use Rattle.std.proofs.Common.{ap, arith, length-drop}
+use Rattle.std.specs.Prelude.{◌≡◌, ℕ, suc, ◌+◌, ◌-◌, ◌≤◌, Bool, true, false, cond, not, List, [], ◌∷◌, length, Some, None, Option, ◌==◌, refl}
+use Rattle.std.proofs.Common.{ap, arith}
 use Rattle.std.proofs.lemmas.List.Filters.{length-filter_both}
 use Rattle.source.specs.declared.token.Place.{Place}
 use Rattle.source.specs.declared.token.Token.{Token}
@@ -13,9 +13,13 @@ pub placed_length : (kinds : List ℕ) (n : ℕ) → length (placed kinds n) ≡
 placed_length [] n = refl
 placed_length (kind ∷ kinds) n = ap suc (placed_length kinds (n + 1))
 
--- a stored list is opened on at most 60,000 bytes
-pub stored_short : (kinds : List ℕ) (n : ℕ) → length kinds ≤ 60000 → length (placed (drop n kinds) (n + 1)) ≤ 60000
-stored_short kinds n few = rw (placed_length, length-drop) (omega arith)
+-- at most 60,000 bytes are as many tokens, wherever they begin
+pub stored_short : (kinds : List ℕ) (n : ℕ) → length kinds ≤ 60000 → length (placed kinds (n + 1)) ≤ 60000
+stored_short kinds n few = rw placed_length few
+
+-- so are those that are left, where all are at most 60,000
+pub left_short : (kinds : List ℕ) (n : ℕ) → n + length kinds ≤ 60000 → length (placed kinds (n + 1)) ≤ 60000
+left_short kinds n few = stored_short kinds n (omega arith)
 
 -- a skip has no more tokens than the list below
 pub skipped_short : {F : Type 0} (c : ℕ) (m : Meaning F) → length m.tokens ≤ 60000 → length (skipped c m).tokens ≤ 60000

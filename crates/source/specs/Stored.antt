@@ -1,5 +1,5 @@
 -- What a list of bytes in memory means: each byte is a token's kind, at its place from 1; the end comes behind the last.
-use Rattle.std.specs.Prelude.{ℕ, ◌+◌, List, [], ◌∷◌, length, drop}
+use Rattle.std.specs.Prelude.{ℕ, ◌+◌, List, [], ◌∷◌, length}
 use Rattle.std.specs.declared.convert.Infallible.{Infallible}
 use Rattle.source.specs.declared.stored.StoredList.{StoredList}
 use Rattle.source.specs.declared.token.Place.TheVariants.{One}
@@ -11,14 +11,10 @@ abbrev pub placed : List ℕ → ℕ → List Token
 placed [] n = []
 placed (kind ∷ kinds) n = record { kind = kind; place = One n } ∷ placed kinds (n + 1)
 
--- what is left of these kinds when the first n have been given
-abbrev pub stored_from : ℕ → List ℕ → Meaning Infallible
-stored_from n kinds = record { tokens = placed (drop n kinds) (n + 1); last = ends (One (length kinds + 1)) }
-
--- what these kinds mean from their front
+-- what these kinds mean
 abbrev pub stored : List ℕ → Meaning Infallible
-stored kinds = stored_from 0 kinds
+stored kinds = record { tokens = placed kinds 1; last = ends (One (length kinds + 1)) }
 
--- what a stored list means
+-- what a stored list means: the kinds that are left, behind those that have been given
 abbrev pub listed : StoredList → Meaning Infallible
-listed s = stored_from s.given s.kinds.now
+listed s = record { tokens = placed s.rest.now (s.given + 1); last = ends (One (s.given + length s.rest.now + 1)) }

@@ -7,6 +7,7 @@ use crate::source::Source;
 use crate::token::{Entry, Place, Token};
 
 /// Why a drain stopped: the source's last entry came, or the list was full before.
+// No `Result` of an `Option`: it would call a full list an end, or a fault's tokens none; the three are of one rank.
 #[derive(Clone, Copy, PartialEq, Eq, Debug)]
 pub enum Stop<F> {
     End(Place),
@@ -28,32 +29,21 @@ pub fn drain<S: Source>(source: &mut S, list: &mut [Token]) -> Drained<S::Fault>
     ensures leaves { S.Source.meaning source.new ≡ after_draining (length list.old) (S.Source.meaning source.old) }
     ensures writes { list.new ≡ filled list.old (S.Source.meaning source.old) }
 {
-    let mut tokens = 0;
-    'entries: while tokens < list.len() {
-        let entry = match source.next() {
-            Ok(entry) => entry,
-            Err(fault) => {
-                return Drained {
-                    tokens,
-                    stop: Stop::Fault(fault),
-                };
-            }
-        };
-        match entry {
-            Entry::Given(token) => {
-                list[tokens] = token;
-                tokens += 1;
-            }
-            Entry::End(place) => {
-                return Drained {
-                    tokens,
-                    stop: Stop::End(place),
-                };
-            }
+    for tokens in 0..list.len() {
+        match source.next() {
+            Ok(Entry::Given(token)) => list[tokens] = token,
+            Ok(Entry::End(place)) => return Drained {
+                tokens,
+                stop: Stop::End(place),
+            },
+            Err(fault) => return Drained {
+                tokens,
+                stop: Stop::Fault(fault),
+            },
         }
     }
     Drained {
-        tokens,
+        tokens: list.len(),
         stop: Stop::Full,
     }
 }

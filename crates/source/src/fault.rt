@@ -1,10 +1,10 @@
 //! What can go wrong with sources, and the numbers that it is known by.
-ghost use Rattle.std.specs.Prelude.{◌≡◌};
+ghost use Rattle.std.specs.Prelude.{◌≡◌, ◌≤◌, MatchResult};
+ghost use Rattle.source.specs.Opening.{Refused};
 ghost use Rattle.source.specs.Refusals.{layer_number, lift, too_long};
 
 use crate::token::Place;
 use refusal::Numbered;
-use std::convert::Infallible;
 
 /// More bytes than a source is opened on.
 #[derive(Clone, Copy, PartialEq, Eq, Debug)]
@@ -12,11 +12,21 @@ pub struct TooLong {
     pub length: usize,
 }
 
+/// The bound of every source: more than 60,000 bytes are refused.
+pub fn check_length(length: usize) -> Result<(), TooLong>
+    ensures { MatchResult result (λ _. length ≤ 60000) (Refused length) }
+{
+    if length > 60_000 {
+        return Err(TooLong { length });
+    }
+    Ok(())
+}
+
 impl Numbered for TooLong {
     ghost number = { λ e. (too_long e).number };
 
-    fn number(&self) -> u8 {
-        18
+    fn number_of(refusal: Option<&TooLong>) -> Option<u8> {
+        refusal.map(|_| 18)
     }
 }
 
@@ -37,23 +47,10 @@ pub enum LayerFault<F> {
 impl<F: Numbered> Numbered for LayerFault<F> {
     ghost number = { layer_number F.Numbered.number };
 
-    fn number(&self) -> u8 {
-        match self {
-            LayerFault::Under(fault) => fault.number(),
-            LayerFault::QuotaUsed => 22,
-        }
-    }
-}
-
-// `Infallible` has no value, so nothing can be promised of its number, and it is not `Numbered`.
-impl LayerFault<Infallible> {
-    /// The number of a fault of a layer over a source that has none.
-    pub fn number(&self) -> u8
-        ensures { result ≡ layer_number (λ _. 0) self.now }
-    {
-        match self {
-            Self::Under(never) => match *never {},
-            Self::QuotaUsed => 22,
+    fn number_of(fault: Option<&LayerFault<F>>) -> Option<u8> {
+        match fault? {
+            LayerFault::Under(fault) => F::number_of(Some(fault)),
+            LayerFault::QuotaUsed => Some(22),
         }
     }
 }
@@ -62,10 +59,9 @@ impl<F> From<Faulted<F>> for Faulted<LayerFault<F>> {
     ghost from_gives = { λ f r. r ≡ lift f };
 
     fn from(faulted: Faulted<F>) -> Faulted<LayerFault<F>> {
-        let Faulted { fault, place: at } = faulted;
         Faulted {
-            fault: LayerFault::Under(fault),
-            place: at,
+            fault: LayerFault::Under(faulted.fault),
+            place: faulted.place,
         }
     }
 }

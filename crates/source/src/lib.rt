@@ -13,7 +13,7 @@ mod stored;
 mod token;
 
 pub use draining::{Drained, Stop, drain};
-pub use fault::{Faulted, LayerFault, TooLong};
+pub use fault::{Faulted, LayerFault, TooLong, check_length};
 pub use layer::{Quota, Skip, quota_law, skip_law};
 pub use source::Source;
 pub use stored::StoredList;

@@ -8,15 +8,17 @@ pub enum Place {
 }
 
 /// A token: its kind, any byte, and where it stands.
+// The kind is a number, as table files have it: a stored list may hold any.
 #[derive(Clone, Copy, PartialEq, Eq, Debug)]
 pub struct Token {
     pub kind: u8,
     pub place: Place,
 }
 
-/// What a source hands out where it has no fault to report.
+/// What is handed out where there is no fault to report: something, or the end and its place.
+// No `Result`: the end is no error, and stands inside the `Result` of a source.
 #[derive(Clone, Copy, PartialEq, Eq, Debug)]
-pub enum Entry {
-    Given(Token),
+pub enum Entry<T> {
+    Given(T),
     End(Place),
 }

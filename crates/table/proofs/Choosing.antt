@@ -1,10 +1,10 @@
 -- Where every entry names a rule of its nonterminal, and each rule is chosen for just the words that it fits, the entries are just the rules that
 -- fit. No two fit one word, so a look-up, which finds some entry for its nonterminal and word, finds the one that there is.
-use Rattle.std.proofs.Common.{◌≡◌, ℕ, ◌+◌, ◌<◌, ◌≤◌, Bool, true, false, ◌&&◌, eqb, ◌⊎◌, ◌↔◌, List, [], ◌∷◌, length, get_or, drop, sym, refl, ap, ◌∙◌, subst, inl, inr, arith, length-drop}
+use Rattle.std.proofs.Common.{◌≡◌, ℕ, ◌<◌, ◌≤◌, Bool, true, false, ◌&&◌, eqb, ◌⊎◌, ◌↔◌, List, [], ◌∷◌, sym, refl, ap, ◌∙◌, subst, inl, inr}
 use mathlib.Core.List.Memᴰ
 use mathlib.Core.List.{Memᴰ}
 use mathlib.Core.Option.{some}
-use Rattle.std.proofs.lemmas.Bool.{true≢false, cases_eq, and_from, and_parts, and_left, eq-eqb, ne_eqb, eqb-true, cond-true, cond-false}
+use Rattle.std.proofs.lemmas.Bool.{true≢false, cases_eq, and_from, and_parts, eq-eqb, eqb-true, cond-true, cond-false}
 use Rattle.grammar.specs.Table.{Fits, TwoFit}
 use Rattle.words.specs.Codes.{cut}
 use Rattle.words.specs.Sets.{no_words}
@@ -12,39 +12,17 @@ use Rattle.words.specs.declared.set.Words.{Words}
 use Rattle.frames.specs.declared.header.Section.TheVariants.{Choices}
 use Rattle.frames.specs.Form.{word_of}
 use Rattle.frames.specs.Raw.{Raw, header_of, left_of, section_of}
-use Rattle.frames.proofs.Turns.{drop_four}
 use Rattle.lookahead.specs.Entries.{Choice, choices_in, ChosenIn}
 use Rattle.lookahead.specs.Stored.{with_choices}
 use Rattle.lookahead.proofs.Comparing.{stored_equal}
 use Rattle.lookahead.proofs.Entering.{choices_stored}
 use Rattle.table.specs.Contents.{grammar_of, table_of, same_word, choice_in}
 use Rattle.table.specs.Drafts.{Formed}
-use Rattle.table.specs.Fitted.{set_of, Fitted, own_rules, ChosenAs}
+use Rattle.table.specs.Fitted.{set_of, own_rules, ChosenAs}
 use Rattle.table.specs.Rows.{ChoicesOnce, ChoicesGood}
 use Rattle.table.proofs.LookedUp.{same_word_refl}
 use Rattle.table.proofs.Sections.{choice_entry, state_choices, choices_words}
-use Rattle.table.proofs.Fitting.{placed, fits_word}
-
--- one entry more
-module _ (R : Raw) (es : List ℕ) (i : ℕ) where
-  own_turn : i + 3 < length es → own_rules R (drop i es) ≡ (eqb (get_or es i 0) (left_of R (get_or es (i + 3) 0)) && own_rules R (drop (i + 4) es))
-  own_turn h = ap (own_rules R) (drop_four es i h)
-
-  pub own_miss : i + 3 < length es → (get_or es i 0 ≡ left_of R (get_or es (i + 3) 0) → ⊥) → false ≡ own_rules R (drop i es)
-  own_miss h e = sym (own_turn h ∙ and_left _ _ (ne_eqb _ _ e))
-
-  pub own_more : i + 3 < length es → get_or es i 0 ≡ left_of R (get_or es (i + 3) 0) → own_rules R (drop (i + 4) es) ≡ own_rules R (drop i es)
-  own_more h e = sym (own_turn h ∙ ap (λ (b : Bool). b && own_rules R (drop (i + 4) es)) (eq-eqb _ _ e))
-
-own_short : (R : Raw) (es : List ℕ) → length es ≤ 3 → true ≡ own_rules R es
-own_short R [] h = refl
-own_short R (A ∷ []) h = refl
-own_short R (A ∷ a ∷ []) h = refl
-own_short R (A ∷ a ∷ b ∷ []) h = refl
-own_short R (A ∷ a ∷ b ∷ r ∷ es) h = absurd (omega arith)
-
-pub own_end : (R : Raw) (es : List ℕ) (i : ℕ) → length es ≤ i + 3 → true ≡ own_rules R (drop i es)
-own_end R es i h = own_short R (drop i es) (simp length-drop (omega arith))
+use Rattle.table.proofs.Fitting.{Fitted, placed, fits_word}
 
 -- the test tells it of every entry
 own_each : (R : Raw) (es : List ℕ) → own_rules R es ≡ true → (c : Choice) → Memᴰ c (choices_in es) → c.nonterminal ≡ left_of R c.rule

@@ -1,18 +1,18 @@
 -- Equal states have the same sets, and who leads to whom is read off the lists where each symbol is named once.
-use Rattle.std.proofs.Common.{◌≡◌, ℕ, ◌+◌, ◌<◌, ◌≤◌, Bool, true, false, ◌⊎◌, List, [], ◌∷◌, length, get_or, drop, Decides, sym, ap, ◌∙◌, subst, inl, inr, arith, length-drop}
+use Rattle.std.proofs.Common.{◌≡◌, ℕ, ◌<◌, Bool, true, false, ◌⊎◌, List, [], ◌∷◌, ◌++◌, length, get_or, Decides, sym, ap, ◌∙◌, subst, inl, inr, arith}
 use mathlib.Core.List.Memᴰ
 use mathlib.Core.List.{Memᴰ}
 use Rattle.std.proofs.lemmas.Bool.{true≢false}
 use Rattle.grammar.specs.Table.{EqualStates, Found}
 use Rattle.frames.specs.declared.header.Section as section
 use Rattle.frames.specs.Raw.{Raw, header_of, section_of}
-use Rattle.frames.proofs.Turns.{drop_two}
 use Rattle.lookahead.proofs.Comparing.{equal_words}
 use Rattle.table.specs.declared.state.State.{State}
 use Rattle.table.specs.Contents.{table_of, Successor, successors_in}
 use Rattle.table.specs.Drafts.{Formed}
 use Rattle.table.specs.Rows.{SuccessorsOnce}
-use Rattle.table.specs.States.{IsState, SameStates, LeadsTo}
+use Rattle.table.specs.States.{IsState, LeadsTo}
+use Rattle.table.proofs.StateSets.{SameStates}
 use Rattle.table.proofs.Sections.{state_words, successor_entry}
 use Rattle.table.proofs.Defining.{bool_same}
 
@@ -35,31 +35,38 @@ equal_decides {K} R formed m q l n a b is is' r t =
     )
 
 -- a state that is named by an entry
-pub leads_here : (es : List ℕ) (i q : ℕ) → i + 1 < length es → get_or es (i + 1) 0 ≡ q → LeadsTo (drop i es) q
-leads_here es i q h e =
-    subst (λ (xs : List ℕ). LeadsTo xs q) (sym (drop_two es i h)) (get_or es i 0, Memᴰ.head (ap (λ (s : ℕ). record { symbol = get_or es i 0; state = s }) (sym e)))
+module _ (q : ℕ) (xs : List ℕ) where
+  pub leads_here : (entry rest : List ℕ) → xs ≡ entry ++ rest → length entry ≡ 2 → get_or entry 1 0 ≡ q → LeadsTo xs q
+  leads_here (a ∷ b ∷ []) rest cut long e =
+      subst (λ (es : List ℕ). LeadsTo es q) (sym cut) (a, Memᴰ.head (ap (λ (s : ℕ). record { symbol = a; state = s }) (sym e)))
+  leads_here [] rest cut long e = absurd (omega arith)
+  leads_here (a ∷ []) rest cut long e = absurd (omega arith)
+  leads_here (a ∷ b ∷ c ∷ entry) rest cut long e = absurd (omega arith)
 
-pub leads_on : (es : List ℕ) (i q : ℕ) → i + 1 < length es → (get_or es (i + 1) 0 ≡ q → ⊥) → LeadsTo (drop i es) q → LeadsTo (drop (i + 2) es) q
-leads_on es i q h f l = by (subst (λ (xs : List ℕ). LeadsTo xs q) (drop_two es i h) l)
-  where
-    by : LeadsTo (get_or es i 0 ∷ get_or es (i + 1) 0 ∷ drop (i + 2) es) q → LeadsTo (drop (i + 2) es) q
-    by (X, m) = by_place (Memᴰ.cases_cons m)
-      where
-        by_place : (◌≡◌ {A = Successor} (record { symbol = X; state = q }) (record { symbol = get_or es i 0; state = get_or es (i + 1) 0 }))
-            ⊎ Memᴰ (record { symbol = X; state = q }) (successors_in (drop (i + 2) es)) → LeadsTo (drop (i + 2) es) q
-        by_place (inl p) = absurd (f (sym (ap (λ (e : Successor). e.state) p)))
-        by_place (inr p) = (X, p)
+  pub leads_on : (entry rest : List ℕ) → xs ≡ entry ++ rest → length entry ≡ 2 → (get_or entry 1 0 ≡ q → ⊥) → LeadsTo xs q → LeadsTo rest q
+  leads_on (a ∷ b ∷ []) rest cut long f l = by (subst (λ (es : List ℕ). LeadsTo es q) cut l)
+    where
+      by : LeadsTo (a ∷ b ∷ rest) q → LeadsTo rest q
+      by (X, m) = by_place (Memᴰ.cases_cons m)
+        where
+          by_place : (◌≡◌ {A = Successor} (record { symbol = X; state = q }) (record { symbol = a; state = b }))
+              ⊎ Memᴰ (record { symbol = X; state = q }) (successors_in rest) → LeadsTo rest q
+          by_place (inl p) = absurd (f (sym (ap (λ (e : Successor). e.state) p)))
+          by_place (inr p) = (X, p)
+  leads_on [] rest cut long f l = absurd (omega arith)
+  leads_on (a ∷ []) rest cut long f l = absurd (omega arith)
+  leads_on (a ∷ b ∷ c ∷ entry) rest cut long f l = absurd (omega arith)
 
-pub leads_back : (es : List ℕ) (i q : ℕ) → i + 1 < length es → LeadsTo (drop (i + 2) es) q → LeadsTo (drop i es) q
-leads_back es i q h (X, m) = subst (λ (xs : List ℕ). LeadsTo xs q) (sym (drop_two es i h)) (X, Memᴰ.tail m)
+  pub leads_back : (entry rest : List ℕ) → xs ≡ entry ++ rest → length entry ≡ 2 → LeadsTo rest q → LeadsTo xs q
+  leads_back (a ∷ b ∷ []) rest cut long (X, m) = subst (λ (es : List ℕ). LeadsTo es q) (sym cut) (X, Memᴰ.tail m)
+  leads_back [] rest cut long l = absurd (omega arith)
+  leads_back (a ∷ []) rest cut long l = absurd (omega arith)
+  leads_back (a ∷ b ∷ c ∷ entry) rest cut long l = absurd (omega arith)
 
-pub leads_nowhere : (es : List ℕ) (i q : ℕ) → length es ≤ i + 1 → LeadsTo (drop i es) q → ⊥
-leads_nowhere es i q h l = by (drop i es) (simp length-drop (omega arith)) l
-  where
-    by : (xs : List ℕ) → length xs ≤ 1 → LeadsTo xs q → ⊥
-    by [] l (X, m) = Memᴰ.not-nil m
-    by (a ∷ []) l (X, m) = Memᴰ.not-nil m
-    by (a ∷ b ∷ xs) l (X, m) = absurd (omega arith)
+pub leads_nowhere : (q : ℕ) (xs : List ℕ) → length xs < 2 → LeadsTo xs q → ⊥
+leads_nowhere q [] l (X, m) = Memᴰ.not-nil m
+leads_nowhere q (a ∷ []) l (X, m) = Memᴰ.not-nil m
+leads_nowhere q (a ∷ b ∷ xs) l (X, m) = absurd (omega arith)
 
 -- an entry is a successor, and a successor an entry
 pub leads_found : (R : Raw) (m q : ℕ) → m < q → SuccessorsOnce R m → LeadsTo (section_of R m section.TheVariants.Successors) q → Found (table_of R) q

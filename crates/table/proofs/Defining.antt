@@ -15,25 +15,24 @@ use Rattle.items.specs.Sets.{has}
 use Rattle.items.specs.Actives.{NextOf}
 use Rattle.frames.specs.declared.header.Section as section
 use Rattle.frames.specs.Raw.{Raw, header_of, section_of}
-use Rattle.frames.specs.Views.{raw}
 use Rattle.lookahead.proofs.Following.{next_words}
-use Rattle.table.specs.declared.draft.Draft.{Draft}
+use Rattle.table.specs.declared.at.At.{At}
 use Rattle.table.specs.declared.state.State.{State}
 use Rattle.table.specs.Contents.{grammar_of, table_of}
-use Rattle.table.specs.States.{Firsts, CutDraft, IsState, SameStates, SuccessorDefined, answered}
+use Rattle.table.specs.States.{file, Firsts, IsState, SuccessorDefined, answered}
 use Rattle.table.specs.Drafts.{Formed}
 use Rattle.table.proofs.Formed.{ranges, symbol_good}
 use Rattle.table.proofs.Drafting.{draft_rules}
 use Rattle.table.proofs.Sections.{GoodSuccessor, found_successor, state_words}
-use Rattle.table.proofs.StateSets.{some_item}
+use Rattle.table.proofs.StateSets.{SameStates, some_item}
 
 pub answered_some : (o : math.Option ℕ) (p : ℕ) → answered o ≡ Some p → o ≡ math.some p
-answered_some math.none p e = let z : ◌≡◌ {A = ℕ} 0 1 = cc in absurd (omega arith)
+answered_some math.none p e = absurd cc
 answered_some (math.some q) p e = let s : q ≡ p = cc in ap (λ (x : ℕ). math.some x) s
 
 pub answered_none : (o : math.Option ℕ) → answered o ≡ None → (p : ℕ) → o ≡ math.some p → ⊥
-answered_none math.none e p f = let z : ◌≡◌ {A = ℕ} 0 1 = cc in absurd (omega arith)
-answered_none (math.some q) e p f = let z : ◌≡◌ {A = ℕ} 0 1 = cc in absurd (omega arith)
+answered_none math.none e p f = absurd cc
+answered_none (math.some q) e p f = absurd cc
 
 pub bool_same : (a b : Bool) → (a ≡ true → b ≡ true) → (b ≡ true → a ≡ true) → a ≡ b
 bool_same true b f h = sym (f refl)
@@ -52,11 +51,17 @@ lowered g K X (i, (c, b)) =
       (subst (λ (n : ℕ). Closure g K (record { rule = i.rule; dot = n })) (sym up) c, subst (λ (n : ℕ). Before g (record { rule = i.rule; dot = n }) X) (sym up) b),
     )
 
-module _ {K : ℕ} (d : Draft) (ok : CutDraft K d) (vs : List (Words K)) (firsts : Firsts K (raw d.frames) vs) (q : ℕ) (l : q < (header_of (raw d.frames)).s)
-    (here : State K) (is : IsState (raw d.frames) q here) (X : ℕ) (next : Places)
-    (next-is : NextOf (take d.header.p d.rules) here.places X next) where
+module _ {K : ℕ} (a : At K) (vs : List (Words K)) (firsts : Firsts K (file a.draft.now) vs)
+    (here : State K) (is : IsState (file a.draft.now) a.q here) (X : ℕ) (next : Places)
+    (next-is : NextOf (take a.draft.now.header.p a.draft.now.rules) here.places X next) where
   abbrev R : Raw
-  R = raw d.frames
+  R = file a.draft.now
+
+  abbrev q : ℕ
+  q = a.q
+
+  l : q < (header_of R).s
+  l = a.within
 
   abbrev g : Grammar
   g = grammar_of R
@@ -65,11 +70,11 @@ module _ {K : ℕ} (d : Draft) (ok : CutDraft K d) (vs : List (Words K)) (firsts
   kernel_here = Kernel (table_of R) q
 
   formed : Formed R
-  formed = ok.drafted.formed
+  formed = a.draft.now.formed
 
   next_told : (i : Item) → Decides (has next i) (NextKernel g kernel_here X i)
   next_told i =
-      let t = next-is g (draft_rules d ok.drafted) i in
+      let t = next-is g (draft_rules a.draft.now) i in
       (λ e. let (c, b) = t.0 e in (closure_over g (λ j m. (is.places j).0 m) c, b), λ (c, b). t.1 (closure_over g (λ j m. (is.places j).1 m) c, b))
 
   -- the table names no state
@@ -116,7 +121,7 @@ module _ {K : ℕ} (d : Draft) (ok : CutDraft K d) (vs : List (Words K)) (firsts
 
       words_are : (there.words ≡ product) ↔ ((y : List ℕ) → Word (table_of R) p y ↔ FirstWith g (X ∷ []) (Word (table_of R) q) y)
       words_are =
-          next_words K (header_of R) g ok.cut_is (ranges R formed).t_high refl refl X (value (word_kind K) (valuation (word_kind K) vs) X) (firsts X symbol)
+          next_words K (header_of R) g a.cut_is (ranges R formed).t_high refl refl X (value (word_kind K) (valuation (word_kind K) vs) X) (firsts X symbol)
           (section_of R q section.TheVariants.Words) (section_of R p section.TheVariants.Words) (state_words R formed q l) (state_words R formed p within)
           here.words there.words is.words is'.words
 

@@ -8,29 +8,35 @@ use Rattle.std.proofs.lemmas.Bool.{cases_eq, cases_lt, cond-false, ne_eqb}
 use Rattle.grammar.specs.Grammar.{Rule}
 use Rattle.grammar.specs.Table.{Table, After, Fits, TwoFit}
 use Rattle.words.specs.Codes.{cut}
-use Rattle.words.specs.Sets.{no_words}
+use Rattle.words.specs.Sets.{member, no_words}
 use Rattle.words.specs.declared.set.Words.{Words}
 use Rattle.frames.specs.declared.header.Header.{Header}
 use Rattle.frames.specs.declared.header.Section as section
 use Rattle.frames.specs.Form.{is_word}
 use Rattle.frames.specs.Raw.{Raw, frame, header_of, left_of, right_of, section_of}
-use Rattle.lookahead.specs.Entries.{WordIn}
-use Rattle.lookahead.specs.Stored.{Stores, StandsFor}
+use Rattle.lookahead.specs.Entries.{WordIn, strip}
+use Rattle.lookahead.specs.Stored.{Stores, StandsFor, with_entries}
 use Rattle.lookahead.proofs.Comparing.{stored_meet}
 use Rattle.lookahead.proofs.Entering.{words_stored}
 use Rattle.table.specs.Contents.{rule_in, grammar_of, table_of}
 use Rattle.table.specs.Drafts.{Formed}
 use Rattle.table.specs.States.{answered, onwards, after_in}
-use Rattle.table.specs.Fitted.{if_successor, fitting_state, Fitting, set_of, Fitted, Share, MeetsLower}
-use Rattle.table.proofs.Formed.{left_good, rule_there, rule_found}
+use Rattle.table.specs.Fitted.{if_successor, fitting_state, words_at, fitting_words, set_of, FitWords, Share, MeetsLower}
+use Rattle.table.proofs.Formed.{ranges, left_good, rule_there, rule_found}
 use Rattle.table.proofs.Sections.{state_words, found_successor}
+use Rattle.table.proofs.Defining.{answered_some}
 
-answered_some : (o : math.Option ℕ) (p : ℕ) → answered o ≡ Some p → o ≡ math.some p
-answered_some math.none p e = let z : ◌≡◌ {A = ℕ} 0 1 = cc in absurd (omega arith)
-answered_some (math.some q) p e = let s : q ≡ p = cc in ap (λ (x : ℕ). math.some x) s
+-- the set has the words that rule r fits at q.
+abbrev pub Fitting : {K : ℕ} → Raw → ℕ → ℕ → Words K → Type 0
+Fitting R q r W = Stores (header_of R) W (λ y. Fits (grammar_of R) (table_of R) q (left_of R r) y r)
+
+-- each rule has its set of the words that it fits at q
+pub record Fitted {K : ℕ} (R : Raw) (q : ℕ) (Ws : List (Words K)) : Type 0 where
+  pub many : length Ws ≡ 60
+  pub each : (r : ℕ) → r < (header_of R).p → Fitting R q r (set_of Ws r)
 
 onwards_some : (T : Table) (X : ℕ) (o : Option ℕ) (p : ℕ) → onwards T X o ≡ Some p → (s : ℕ) × (o ≡ Some s) × (T.next s X ≡ math.some p)
-onwards_some T X None p e = let z : ◌≡◌ {A = ℕ} 0 1 = cc in absurd (omega arith)
+onwards_some T X None p e = absurd cc
 onwards_some T X (Some s) p e = (s, refl, answered_some (T.next s X) p e)
 
 -- the look-ups find after(q, ω)
@@ -47,16 +53,16 @@ after_within R formed q l [] p e = subst (λ (x : ℕ). x < (header_of R).s) e l
 after_within R formed q l (X ∷ ω) p (s, a, n) = (found_successor R formed s (after_within R formed q l ω s a) X p n).state
 
 if_some : (o : math.Option ℕ) (a : Option ℕ) (p : ℕ) → if_successor o a ≡ Some p → ((s : ℕ) × (o ≡ math.some s)) × (a ≡ Some p)
-if_some math.none a p e = let z : ◌≡◌ {A = ℕ} 0 1 = cc in absurd (omega arith)
+if_some math.none a p e = absurd cc
 if_some (math.some s) a p e = ((s, refl), e)
 
 -- what a rule fits by: with no successor by its left side there is no state, and with one it is the state after its right side
 pub behind_none : (o : math.Option ℕ) (a : Option ℕ) → None ≡ answered o → None ≡ if_successor o a
 behind_none math.none a e = refl
-behind_none (math.some s) a e = let z : ◌≡◌ {A = ℕ} 0 1 = cc in absurd (omega arith)
+behind_none (math.some s) a e = absurd cc
 
 pub behind_some : (o : math.Option ℕ) (a : Option ℕ) (s : ℕ) → Some s ≡ answered o → a ≡ if_successor o a
-behind_some math.none a s e = let z : ◌≡◌ {A = ℕ} 0 1 = cc in absurd (omega arith)
+behind_some math.none a s e = absurd cc
 behind_some (math.some q) a s e = refl
 
 pub fitting_within : (R : Raw) → Formed R → (q : ℕ) → q < (header_of R).s → (r p : ℕ) → fitting_state R q r ≡ Some p → p < (header_of R).s
@@ -135,6 +141,30 @@ module _ {K : ℕ} (R : Raw) (formed : Formed R) (q r : ℕ) (l : r < (header_of
       let z : ◌≡◌ {A = ℕ} 0 1 = cc in
       absurd (omega arith))
       (words_stored K (header_of R) size few [] (λ y m. absurd (Memᴰ.not-nil m)))
+
+-- what is stored is told by the members
+stores_same : {k : ℕ} (h : Header) (W W' : Words k) (P : List ℕ → Type 0) → ((w : List ℕ) → member W w ≡ member W' w) → Stores h W' P → Stores h W P
+stores_same h W W' P e s = record {
+  words = λ y v. let d = s.words y v in (λ m. d.0 (sym (e (strip y)) ∙ m), λ p. e (strip y) ∙ d.1 p);
+  only = λ w m. s.only w (sym (e w) ∙ m);
+}
+
+module _ {K : ℕ} (R : Raw) (formed : Formed R) (q : ℕ) (l : q < (header_of R).s) (size : (header_of R).k ≡ cut K) where
+  fitting_is : (r : ℕ) → r < (header_of R).p → Fitting R q r (fitting_words K R q r)
+  fitting_is r lr = by (fitting_state R q r) refl
+    where
+      by : (o : Option ℕ) → fitting_state R q r ≡ o → Fitting R q r (words_at K R o)
+      by None e = fitting_none R formed q r lr e size (ranges R formed).t_high
+      by (Some p) e =
+          fitting_some R formed q r lr p e (with_entries (no_words K) (section_of R p section.TheVariants.Words))
+          (words_stored K (header_of R) size (ranges R formed).t_high (section_of R p section.TheVariants.Words) (state_words R formed p (fitting_within R formed q l r p e)))
+
+  -- sets with the words that the rules fit
+  pub fitted_by : (Ws : List (Words K)) → length Ws ≡ 60 → FitWords R q Ws → Fitted R q Ws
+  fitted_by Ws many each = record {
+    many = many;
+    each = λ r lr. stores_same (header_of R) (set_of Ws r) (fitting_words K R q r) (λ y. Fits (grammar_of R) (table_of R) q (left_of R r) y r) (each r lr) (fitting_is r lr);
+  }
 
 -- one entry more of a list that is filled from its front with what has a property
 pub filled_more : {A : Type 0} (P : ℕ → A → Type 0) (d : A) (xs : List A) (n : ℕ) (x : A) → n < length xs → P n x

@@ -134,7 +134,7 @@ module _ (R : Raw) (formed : Formed R) where
       rules_there (suc r) m j (omega arith) ∙ ap (λ (x : ℕ). some (rule_in R x)) z
 
   rules_found : (r m j : ℕ) (ρ : Rule) → rule_at (rules_in R r m) j ≡ some ρ → (j < m) × (ρ ≡ rule_in R (r + j))
-  rules_found r zero j ρ e = let z : ◌≡◌ {A = ℕ} 0 1 = cc in absurd (omega arith)
+  rules_found r zero j ρ e = absurd cc
   rules_found r (suc m) zero ρ e =
       let z : r ≡ r + 0 = omega arith in
       let s : ρ ≡ rule_in R r = cc in

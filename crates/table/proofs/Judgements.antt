@@ -1,44 +1,33 @@
--- From the demands on states to the answers of rows.
-use Rattle.std.proofs.Common.{◌≡◌, ℕ, ◌<◌, ◌≤◌, Bool, true, false, not, ◌⊎◌, Some, None, Decides, sym, refl, inl, inr, arith}
-use Rattle.std.proofs.lemmas.Bool.{true≢false, cases_lt}
+-- From the tests of states to the answers of rows.
+use Rattle.std.proofs.Common.{◌≡◌, ℕ, ◌<◌, Bool, true, false, List, ◌∷◌, Some, None, Err, IsErrAnd, Decides, Option, Result, sym, refl, ap, ◌∙◌, subst, inl, arith}
+use Rattle.std.proofs.lemmas.Result.{err_from_is_err_and}
+use Rattle.std.proofs.lemmas.Bool.{true≢false}
 use Rattle.frames.specs.Raw.{Raw, header_of}
-use Rattle.table.specs.declared.rows.StateRow.{StateRow}
-use Rattle.table.specs.declared.rows.StateRow.TheVariants.{Defined, Distinct, Found, OneFits, Chosen}
-use Rattle.table.specs.Rows.{Good, Answers}
-use Rattle.table.specs.Judging.{row_of, Demand}
+use Rattle.table.specs.declared.refused.CheckRefusal.{CheckRefusal}
+use Rattle.table.specs.Rows.{Row, Good, refusal_of, VerdictBy, Answers}
+use Rattle.table.specs.Lowest.{LowestFailing}
 
-pub decides_not : {P : Type 0} (x : Bool) → Decides x P → Decides (not x) (P → ⊥)
-decides_not true d = (λ e. absurd (true≢false (sym e)), λ f. absurd (f (d.0 refl)))
-decides_not false d = (λ _ p. true≢false (sym (d.1 p)), λ _. refl)
+-- a row that asks P of each state is answered by the lowest state that fails a test for P
+module _ (R : Raw) (c : Row) (P : ℕ → Type 0) (up : (q : ℕ) → (q < (header_of R).s → P q) → Good R c q) (down : (q : ℕ) → Good R c q → q < (header_of R).s → P q)
+    (n : ℕ) (n_is : n ≡ (header_of R).s) where
+  pub row_answer : {answers : ℕ → Bool → Type 0} (r : Option ℕ) → LowestFailing n answers r
+      → ((q : ℕ) (b : Bool) → q < (header_of R).s → answers q b → Decides b (P q)) → Answers R c r
+  row_answer {answers} (Some q) low tells = let (l, (a, below)) = low.found in record {
+    applies = λ g. let h : q < (header_of R).s = omega arith in true≢false (sym ((tells q false h a).1 (down q g h)));
+    lowest = λ j h. up j (λ k. (tells j true k (below j h)).0 refl);
+  }
+  row_answer {answers} None low tells = by
+    where
+      by : (j : ℕ) → Good R c j
+      by j = up j (λ k. (tells j true k (low.none j (omega arith))).0 refl)
 
-pub good_of : (R : Raw) (w : StateRow) (q : ℕ) → Demand R w q → Good R (row_of w) q
-good_of R Defined q d = λ _. d
-good_of R Distinct q d = λ _. d
-good_of R Found q d = λ _. d
-good_of R OneFits q d = λ _. d
-good_of R Chosen q d = λ _. d
+-- what an answer tells where nothing is found
+pub none_good : (R : Raw) (c : Row) (o : Option ℕ) → Answers R c o → o ≡ None → (i : ℕ) → Good R c i
+none_good R c o a e = subst (Answers R c) e a
 
-demand_of : (R : Raw) (w : StateRow) (q : ℕ) → q < (header_of R).s → Good R (row_of w) q → Demand R w q
-demand_of R Defined q l g = g l
-demand_of R Distinct q l g = g l
-demand_of R Found q l g = g l
-demand_of R OneFits q l g = g l
-demand_of R Chosen q l g = g l
-
-good_beyond : (R : Raw) (w : StateRow) (q : ℕ) → (header_of R).s ≤ q → Good R (row_of w) q
-good_beyond R Defined q l = λ h. absurd (omega arith)
-good_beyond R Distinct q l = λ h. absurd (omega arith)
-good_beyond R Found q l = λ h. absurd (omega arith)
-good_beyond R OneFits q l = λ h. absurd (omega arith)
-good_beyond R Chosen q l = λ h. absurd (omega arith)
-
--- the lowest state that does not meet the demand, and none where all do
-pub some_lowest : (R : Raw) (w : StateRow) (q : ℕ) → q < (header_of R).s → (Demand R w q → ⊥) → ((k : ℕ) → k < q → Demand R w k) → Answers R (row_of w) (Some q)
-some_lowest R w q l f below = record { applies = λ g. f (demand_of R w q l g); lowest = λ j h. good_of R w j (below j h) }
-
-pub none_lowest : (R : Raw) (w : StateRow) (n : ℕ) → n ≡ (header_of R).s → ((k : ℕ) → k < n → Demand R w k) → Answers R (row_of w) None
-none_lowest R w n e below j = by (cases_lt j n)
-  where
-    by : (j < n) ⊎ (n ≤ j) → Good R (row_of w) j
-    by (inl h) = good_of R w j (below j h)
-    by (inr h) = good_beyond R w j (omega arith)
+-- a refusal that is passed on is that of the row that found something
+pub row_refuses : (R : Raw) (c : Row) (cs : List Row) (o : Option ℕ) (e : CheckRefusal) (v : Result (Unit {0}) CheckRefusal) → Answers R c o
+    → (n : ℕ) × ((o ≡ Some n) × (e ≡ refusal_of c n)) → IsErrAnd v (λ x. x ≡ e) → VerdictBy R (c ∷ cs) v
+row_refuses R c cs o e v a (n, (f, r)) h =
+    let (x, is, same) = err_from_is_err_and v h in
+    inl (n, (subst (Answers R c) f a, is ∙ ap (λ (y : CheckRefusal). Err y) (same ∙ r)))

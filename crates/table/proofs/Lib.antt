@@ -1,5 +1,4 @@
 pub mod Formed
-pub mod SixBytes
 pub mod Drafting
 pub mod Marking
 pub mod LookedUp

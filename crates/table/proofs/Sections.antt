@@ -1,5 +1,5 @@
 -- What the entries of a state's sections are, in a table of the right form, and what is found among them.
-use Rattle.std.proofs.Common.{◌≡◌, ℕ, ◌<◌, Bool, true, false, ◌&&◌, eqb, ltb, leb, ◌⊎◌, List, [], ◌∷◌, length, sym, refl, ap, ◌∙◌, subst, ap₂, inl, inr, arith}
+use Rattle.std.proofs.Common.{◌≡◌, ℕ, ◌<◌, Bool, true, false, ◌&&◌, eqb, ltb, leb, ◌⊎◌, List, [], ◌∷◌, length, sym, refl, ap, ◌∙◌, subst, ap₂, inl, inr}
 use mathlib.Core.List.Memᴰ
 use mathlib.Core.List.{Memᴰ}
 use mathlib.Core.Option.{some}
@@ -86,8 +86,8 @@ choices_are_good R prev (A ∷ a ∷ b ∷ r ∷ es) e c m =
 
 -- what a look-up finds is an entry
 pub successor_entry : (X q : ℕ) (es : List ℕ) → successor_in X es ≡ some q → Memᴰ (record { symbol = X; state = q }) (successors_in es)
-successor_entry X q [] e = let z : ◌≡◌ {A = ℕ} 0 1 = cc in absurd (omega arith)
-successor_entry X q (a ∷ []) e = let z : ◌≡◌ {A = ℕ} 0 1 = cc in absurd (omega arith)
+successor_entry X q [] e = absurd cc
+successor_entry X q (a ∷ []) e = absurd cc
 successor_entry X q (a ∷ b ∷ es) e = by (eqb a X) refl (successor_entry X q es)
   where
     by : (t : Bool) → eqb a X ≡ t → (successor_in X es ≡ some q → Memᴰ (record { symbol = X; state = q }) (successors_in es))
@@ -99,7 +99,7 @@ successor_entry X q (a ∷ b ∷ es) e = by (eqb a X) refl (successor_entry X q 
     by false t so = Memᴰ.tail (so (sym (cond-false _ _ _ t) ∙ e))
 
 pub choice_entry : (A : ℕ) (y : List ℕ) (r : ℕ) (cs : List Choice) → choice_in A y cs ≡ some r → Memᴰ (record { nonterminal = A; word = y; rule = r }) cs
-choice_entry A y r [] e = let z : ◌≡◌ {A = ℕ} 0 1 = cc in absurd (omega arith)
+choice_entry A y r [] e = absurd cc
 choice_entry A y r (c ∷ cs) e = by (eqb c.nonterminal A && same_word c.word y) refl (choice_entry A y r cs)
   where
     by : (t : Bool) → (eqb c.nonterminal A && same_word c.word y) ≡ t → (choice_in A y cs ≡ some r → Memᴰ (record { nonterminal = A; word = y; rule = r }) cs)

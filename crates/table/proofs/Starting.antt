@@ -17,10 +17,10 @@ use Rattle.frames.specs.Form.{is_word}
 use Rattle.table.specs.declared.state.State.{State}
 use Rattle.table.specs.Contents.{rules_in, grammar_of, table_of}
 use Rattle.table.specs.Drafts.{Formed}
-use Rattle.table.specs.States.{IsState, SameStates}
+use Rattle.table.specs.States.{IsState}
 use Rattle.table.proofs.Formed.{ranges}
 use Rattle.table.proofs.Sections.{state_words}
-use Rattle.table.proofs.StateSets.{mentioned, mention}
+use Rattle.table.proofs.StateSets.{SameStates, mentioned, mention}
 use Rattle.table.proofs.Defining.{bool_same}
 
 pub decides_no : {P : Type 0} → (P → ⊥) → Decides false P

@@ -1,8 +1,11 @@
 -- States as sets: every item of a kernel lies within the bounds of sets, so the set has the items of the list and no other; and every word is
 -- stored.
-use Rattle.std.proofs.Common.{◌≡◌, ℕ, ◌+◌, ◌<◌, ◌≤◌, true, false, ◌&&◌, eqb, ltb, leb, ◌⊎◌, ◌↔◌, List, [], ◌∷◌, length, drop, sym, refl, ap, ◌∙◌, subst, inl, inr, arith}
+use Rattle.std.proofs.Common.{◌≡◌, ℕ, ◌+◌, ◌<◌, ◌≤◌, Bool, true, false, ◌&&◌, eqb, ltb, leb, ◌⊎◌, ◌↔◌, List, [], ◌∷◌, length, drop, Decides, sym, refl, ap, ◌∙◌, subst, inl, inr, arith}
+use mathlib.Core.Bool.{beq}
+use lib.Pointwise.{pointwise}
 use mathlib.Core.List.Memᴰ
 use mathlib.Core.List.{Memᴰ}
+use Rattle.std.specs.Prelude.{◌==◌}
 use Rattle.std.proofs.lemmas.Bool.{true≢false, and_parts, and_from, or_cases, or_left, or_right, eqb-true, eq-eqb, ne_eqb, ltb-true, lt-ltb, leb-true, cond-true, cond-false, cases_eq}
 use Rattle.grammar.specs.Item.{Item}
 use Rattle.grammar.specs.Table.{Kernel}
@@ -12,6 +15,9 @@ use Rattle.frames.specs.Form.{is_kernel_place, pairs_good}
 use Rattle.items.specs.declared.places.Places.{Places}
 use Rattle.items.specs.Entries.{items, same_item, mentions}
 use Rattle.items.specs.Sets.{has, in_grid}
+use Rattle.words.specs.WordLaws.{rows_decide}
+use Rattle.items.proofs.Grids.{same_places}
+use Rattle.table.specs.declared.state.State.{State}
 use Rattle.table.specs.Contents.{table_of}
 use Rattle.table.specs.Drafts.{Formed}
 use Rattle.table.proofs.Formed.{ranges, right_short, entries_are_good}
@@ -43,6 +49,20 @@ mention (r ∷ d ∷ es) i m = by (mention es i) (Memᴰ.cases_cons m)
     by : (Memᴰ i (items es) → mentions es i ≡ true) → (i ≡ record { rule = r; dot = d }) ⊎ Memᴰ i (items es) → mentions (r ∷ d ∷ es) i ≡ true
     by so (inl p) = or_left _ _ (ap (same_item i) (sym p) ∙ same_item_refl i)
     by so (inr p) = or_right (same_item i (record { rule = r; dot = d })) _ (so p)
+
+-- two states have the same places and the same words
+abbrev pub SameStates : {K : ℕ} → State K → State K → Type 0
+SameStates s s' = ((i : Item) → has s.places i ≡ has s'.places i) × (s.words ≡ s'.words)
+
+-- what `==` of two states answers
+pub states_decide : {K : ℕ} (s t : State K) (r : Bool) → r ≡ (pointwise beq s.places.marks t.places.marks && pointwise ◌==◌ s.words.rows t.words.rows)
+    → Decides r (SameStates s t)
+states_decide {K} s t r e =
+    let places = same_places s.places t.places _ refl in
+    let words = rows_decide K s.words t.words in (
+      λ h. let (p, w) = and_parts (pointwise beq s.places.marks t.places.marks) (pointwise ◌==◌ s.words.rows t.words.rows) (sym e ∙ h) in (places.0 p, words.0 w),
+      λ (p, w). e ∙ and_from _ _ (places.1 p) (words.1 w),
+    )
 
 module _ (R : Raw) (formed : Formed R) where
   right_length : (r : ℕ) → r ≤ (header_of R).p → length (right_of R r) ≤ 6

@@ -10,7 +10,7 @@ use Rattle.table.specs.Rows.{Row, numbers, starts, frames, productive, reachable
 use Rattle.table.specs.Theorems.{VerdictIsOne, OkAccepts}
 
 ok_no_err : (e : CheckRefusal) → ◌≡◌ {A = Result (Unit {0}) CheckRefusal} (Ok tt) (Err e) → ⊥
-ok_no_err e p = let z : ◌≡◌ {A = ℕ} 0 1 = cc in absurd (omega arith)
+ok_no_err e p = absurd cc
 
 lowest_is_one : (R : Raw) (c : Row) (i j : ℕ) → LowestOf R c i → LowestOf R c j → i ≡ j
 lowest_is_one R c i j a b = by (dec_lt i j) (dec_lt j i)

@@ -1,12 +1,12 @@
 -- The words that rules fit at a state, as the check works with them.
-use Rattle.std.specs.Prelude.{◌≡◌, ℕ, ◌<◌, Bool, true, ◌&&◌, List, [], ◌∷◌, length, None, Option, ◌==◌, slice_index_or}
+use Rattle.std.specs.Prelude.{◌≡◌, ℕ, ◌<◌, Bool, true, ◌&&◌, List, [], ◌∷◌, None, Some, Option, ◌==◌, slice_index_or}
 use Rattle.std.proofs.Math.Option as math
-use Rattle.grammar.specs.Table.{Fits}
-use Rattle.words.specs.Sets.{no_words, Meet}
+use Rattle.words.specs.Sets.{member, no_words, Meet}
 use Rattle.words.specs.declared.set.Words.{Words}
-use Rattle.frames.specs.Raw.{Raw, header_of, left_of, right_of}
-use Rattle.lookahead.specs.Stored.{Stores, with_choices}
-use Rattle.table.specs.Contents.{grammar_of, table_of}
+use Rattle.frames.specs.declared.header.Section as section
+use Rattle.frames.specs.Raw.{Raw, header_of, left_of, right_of, section_of}
+use Rattle.lookahead.specs.Stored.{with_entries, with_choices}
+use Rattle.table.specs.Contents.{table_of}
 use Rattle.table.specs.States.{after_in}
 
 -- A state that counts only where there is a successor.
@@ -18,18 +18,22 @@ if_successor (math.some s) p = p
 abbrev pub fitting_state : Raw → ℕ → ℕ → Option ℕ
 fitting_state R q r = if_successor ((table_of R).next q (left_of R r)) (after_in (table_of R) q (right_of R r))
 
--- The set has the words that rule r fits at q.
-abbrev pub Fitting : {K : ℕ} → Raw → ℕ → ℕ → Words K → Type 0
-Fitting R q r W = Stores (header_of R) W (λ y. Fits (grammar_of R) (table_of R) q (left_of R r) y r)
+-- The set of the words of a state, if there is one.
+abbrev pub words_at : (K : ℕ) → Raw → Option ℕ → Words K
+words_at K R None = no_words K
+words_at K R (Some p) = with_entries (no_words K) (section_of R p section.TheVariants.Words)
+
+-- The set of the words that rule r fits at q.
+abbrev pub fitting_words : (K : ℕ) → Raw → ℕ → ℕ → Words K
+fitting_words K R q r = words_at K R (fitting_state R q r)
 
 -- The set of rule r among those of all rules.
 abbrev pub set_of : {K : ℕ} → List (Words K) → ℕ → Words K
 set_of {K} Ws r = slice_index_or Ws r (no_words K)
 
 -- Each rule has its set of the words that it fits at q.
-pub record Fitted {K : ℕ} (R : Raw) (q : ℕ) (Ws : List (Words K)) : Type 0 where
-  pub many : length Ws ≡ 60
-  pub each : (r : ℕ) → r < (header_of R).p → Fitting R q r (set_of Ws r)
+abbrev pub FitWords : {K : ℕ} → Raw → ℕ → List (Words K) → Type 0
+FitWords {K} R q Ws = (r : ℕ) → r < (header_of R).p → (w : List ℕ) → member (set_of Ws r) w ≡ member (fitting_words K R q r) w
 
 -- Two rules of one nonterminal have a word in common.
 abbrev pub Share : {K : ℕ} → Raw → List (Words K) → ℕ → ℕ → Type 0

@@ -6,5 +6,5 @@ pub mod Drafts
 pub mod Marks
 pub mod States
 pub mod Fitted
-pub mod Judging
+pub mod Lowest
 pub mod Checked

@@ -1,5 +1,5 @@
 -- The refusals of the check, by number.
-use Rattle.std.specs.Prelude.{[], ◌∷◌}
+use Rattle.std.specs.Prelude.{ℕ, List, [], ◌∷◌, codes}
 use Rattle.refusal.specs.Refusal.{Refusal}
 use Rattle.table.specs.declared.refused.CheckRefusal.{CheckRefusal}
 use Rattle.table.specs.declared.refused.CheckRefusal.TheVariants.{Frame, Unproductive, Unreachable, Undefined, EqualToLower, NotFound, TwoFit, Mischosen}
@@ -14,3 +14,14 @@ refused (EqualToLower q) = record { number = 8; returned = q ∷ [] }
 refused (NotFound q) = record { number = 9; returned = q ∷ [] }
 refused (TwoFit q) = record { number = 10; returned = q ∷ [] }
 refused (Mischosen q) = record { number = 11; returned = q ∷ [] }
+
+-- Why the check refuses a table, in words.
+abbrev pub reason_of : CheckRefusal → List ℕ
+reason_of (Frame i) = codes "the frame is not as defined"
+reason_of (Unproductive A) = codes "the nonterminal derives no token string"
+reason_of (Unreachable A) = codes "the nonterminal is in no string from the start"
+reason_of (Undefined q) = codes "the state or its successors are not as defined"
+reason_of (EqualToLower q) = codes "the state is equal to a lower one"
+reason_of (NotFound q) = codes "the state is no successor of a lower one"
+reason_of (TwoFit q) = codes "two rules fit one word"
+reason_of (Mischosen q) = codes "the choices are not as defined"

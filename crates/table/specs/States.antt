@@ -20,7 +20,6 @@ use Rattle.lookahead.specs.Stored.{StandsFor}
 use Rattle.table.specs.declared.draft.Draft.{Draft}
 use Rattle.table.specs.declared.state.State.{State}
 use Rattle.table.specs.Contents.{grammar_of, table_of, successors_in, successor_in}
-use Rattle.table.specs.Drafts.{Drafted}
 
 -- The sets are FIRST of the grammar's symbols.
 abbrev pub Firsts : (K : ℕ) → Raw → List (Words K) → Type 0
@@ -28,19 +27,18 @@ Firsts K R vs =
     (X : ℕ) → IsSymbol (grammar_of R) X → (w : List ℕ)
     → Decides (member (value (word_kind K) (valuation (word_kind K) vs) X) w) (First (grammar_of R) (X ∷ []) w)
 
--- A draft of words cut to K.
-pub record CutDraft (K : ℕ) (d : Draft) : Type 0 where
-  pub drafted : Drafted d
-  pub cut_is : (header_of (raw d.frames)).k ≡ cut K
+-- The file of a draft.
+abbrev pub file : Draft → Raw
+file d = raw d.frames
+
+-- q is a state of a draft whose words are cut to K.
+abbrev pub IsAt : ℕ → Draft → ℕ → Type 0
+IsAt K d q = ((header_of (file d)).k ≡ cut K) × (q < (header_of (file d)).s)
 
 -- What is read is state q: its kernel and its words.
 pub record IsState {K : ℕ} (R : Raw) (q : ℕ) (s : State K) : Type 0 where
   pub places : (i : Item) → (has s.places i ≡ true) ↔ Kernel (table_of R) q i
   pub words : StandsFor (header_of R) s.words (section_of R q section.TheVariants.Words)
-
--- Two states have the same places and the same words.
-abbrev pub SameStates : {K : ℕ} → State K → State K → Type 0
-SameStates s s' = ((i : Item) → has s.places i ≡ has s'.places i) × (s.words ≡ s'.words)
 
 -- State q has a successor by X just when X has a next, and the successor is that next.
 pub record SuccessorDefined (R : Raw) (q X : ℕ) : Type 0 where

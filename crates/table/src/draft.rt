@@ -1,13 +1,14 @@
 //! A table of the right form that is not checked further yet.
-ghost use Rattle.std.specs.Prelude.{◌≡◌, ℕ, ◌<◌, ◌≤◌, length, take, slice_index_or};
-ghost use Rattle.solver.specs.Solution.{rule_of};
-ghost use Rattle.items.specs.Closures.{no_link};
-ghost use Rattle.frames.specs.Raw.{header_of, left_of, right_of};
+ghost use Rattle.std.specs.Prelude.{◌≡◌, ℕ, ◌<◌, length, take};
+ghost use Rattle.std.proofs.Math.Option.{some};
+ghost use Rattle.grammar.specs.Grammar.{rule_at};
+ghost use Rattle.solver.specs.Solution.{rule_of, rules_of};
+ghost use Rattle.frames.specs.Raw.{header_of};
 ghost use Rattle.frames.specs.Views.{raw};
-ghost use Rattle.table.specs.Contents.{rule_in};
-ghost use Rattle.table.specs.Drafts.{Formed, Drafted};
+ghost use Rattle.table.specs.Contents.{rule_in, grammar_of};
+ghost use Rattle.table.specs.Drafts.{Formed};
 
-use frames::{Frames, Header, byte_at};
+use frames::{Frames, Header};
 use solver::Rule;
 
 /// The frames with their numbers, and the rules as the solver takes them.
@@ -15,76 +16,46 @@ use solver::Rule;
 pub struct Draft<'a> {
     pub frames: Frames<'a>,
     pub header: Header,
-    // The first `header.p` are rules of the table.
-    pub rules: [Rule; 60],
+    // The first `header.p` are rules of the table: fixed memory, no heap.
+    rules: [Rule<'a>; 60],
+    ghost formed: { Formed (raw frames) },
+    ghost header_is: { header ≡ header_of (raw frames) },
+    ghost rules_are: { rules_of (take header.p rules) ≡ (grammar_of (raw frames)).rules },
+    ghost many: { length rules ≡ 60 },
 }
 
-/// What stands where there is no rule.
-const NO_RULE: Rule = Rule {
-    left: 0,
-    len: 0,
-    right: [0, 0, 0, 0, 0, 0],
-};
-
-// The first six bytes, 0 where there are fewer.
-fn first_six(bytes: &[u8]) -> [u8; 6]
-    ensures { length bytes.now ≤ 6 → take (length bytes.now) result ≡ bytes.now }
+// The rule with a number. Behind the last there is nothing of use.
+fn read_rule<'a>(frames: Frames<'a>, r: u8) -> Rule<'a>
+    ensures { r < (header_of (raw frames.entry)).p → rule_of result ≡ rule_in (raw frames.entry) r }
 {
-    [
-        byte_at(bytes, 0),
-        byte_at(bytes, 1),
-        byte_at(bytes, 2),
-        byte_at(bytes, 3),
-        byte_at(bytes, 4),
-        byte_at(bytes, 5),
-    ]
-}
-
-fn rule_at(frames: Frames<'_>, r: u8) -> Rule
-    requires formed { Formed (raw frames) }
-    requires within { r < (header_of (raw frames)).p }
-    ensures { rule_of result ≡ rule_in (raw frames.entry) r }
-{
-    let right = frames.right(r);
     Rule {
         left: frames.left(r),
-        len: right.len() as u8,
-        right: first_six(right),
+        right: frames.right(r),
     }
 }
 
-fn rules_of(frames: Frames<'_>, p: u8) -> [Rule; 60]
-    requires formed { Formed (raw frames) }
-    requires number { p ≡ (header_of (raw frames)).p }
+fn read_rules<'a>(frames: Frames<'a>) -> [Rule<'a>; 60]
     ensures many { length result ≡ 60 }
-    ensures each { (r : ℕ) → r < p → rule_of (slice_index_or result r no_link) ≡ rule_in (raw frames.entry) r }
+    ensures each { (r : ℕ) → r < 60 → r < (header_of (raw frames.entry)).p → rule_at (rules_of result) r ≡ some (rule_in (raw frames.entry) r) }
 {
-    let mut rules = [NO_RULE; 60];
-    for r in 0..p {
-        rules[r as usize] = rule_at(frames, r);
-    }
-    rules
+    std::array::from_fn(|r| read_rule(frames, r as u8))
 }
 
 impl<'a> Draft<'a> {
     /// Reads the numbers and the rules.
     pub fn new(frames: Frames<'a>) -> Draft<'a>
         requires { Formed (raw frames) }
-        ensures drafted { Drafted result }
-        ensures same { raw result.frames ≡ raw frames.entry }
+        ensures { raw result.frames ≡ raw frames.entry }
     {
-        let header = frames.header();
-        let rules = rules_of(frames, header.p);
         Draft {
             frames,
-            header,
-            rules,
+            header: frames.header(),
+            rules: read_rules(frames),
         }
     }
 
     /// The rules of the table.
-    pub fn rules(&self) -> &[Rule]
-        requires { Drafted self.now }
+    pub fn rules(&self) -> &[Rule<'a>]
         ensures { result.now ≡ take self.now.header.p self.now.rules }
     {
         &self.rules[0..self.header.p as usize]

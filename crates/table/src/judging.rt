@@ -1,14 +1,17 @@
 //! The check, row by row.
-ghost use Rattle.std.specs.Prelude.{◌++◌};
-ghost use Rattle.frames.specs.Raw.{Raw};
+ghost use Rattle.std.specs.Prelude.{ℕ, ◌<◌, [], ◌∷◌, ◌++◌, Decides};
+ghost use Rattle.grammar.specs.Table.{EqualToLower, NotFound, TwoFit};
+ghost use Rattle.frames.specs.Raw.{Raw, header_of};
 ghost use Rattle.frames.specs.Views.{raw};
-ghost use Rattle.table.specs.Drafts.{Drafted};
-ghost use Rattle.table.specs.Rows.{VerdictBy, form_rows, grammar_rows, state_rows, Verdict};
-ghost use Rattle.table.specs.States.{Firsts, CutDraft};
+ghost use Rattle.table.specs.Contents.{grammar_of, table_of};
+ghost use Rattle.table.specs.Rows.{VerdictBy, defined, distinct, found, one_fits, chosen, form_rows, grammar_rows, state_rows, SuccessorsOnce, StateGood, ChoicesGood, Answers, Verdict};
+ghost use Rattle.table.specs.States.{file, Firsts, IsAt};
 
+use crate::at::{At, Judge};
 use crate::draft::Draft;
+use crate::fits::Fits;
+use crate::lowest::{lowest, refuse};
 use crate::refused::CheckRefusal;
-use crate::rows::{StateRow, lowest};
 use crate::sound::judge_grammar;
 use frames::Frames;
 use solver::Value;
@@ -21,65 +24,139 @@ fn judge_form(frames: Frames<'_>) -> Result<(), CheckRefusal>
     if !frames.numbers_good() {
         return Err(CheckRefusal::Frame(0));
     }
-    if let Some(i) = frames.bad_start() {
-        return Err(CheckRefusal::Frame(i));
-    }
-    if let Some(i) = frames.bad_frame() {
-        return Err(CheckRefusal::Frame(i));
-    }
+    refuse(frames.bad_start(), CheckRefusal::Frame)?;
+    refuse(frames.bad_frame(), CheckRefusal::Frame)?;
     Ok(())
 }
 
-// FIRST of each nonterminal.
-fn firsts<const K: usize>(draft: &Draft<'_>) -> [Words<K>; 24]
-    requires draft { CutDraft K draft.now }
-    ensures { Firsts K (raw draft.now.frames) result }
-{
-    let mut sets = [Words::<K>::bottom(); 24];
-    first_sets(draft.rules(), &mut sets[0..draft.header.n as usize]);
-    sets
-}
+impl<const K: usize> Judge<'_, K> {
+    // FIRST of each nonterminal.
+    fn firsts(&self) -> [Words<K>; 24]
+        ensures { Firsts K (file self.now.draft.now) result }
+    {
+        let mut sets = [Words::<K>::bottom(); 24];
+        first_sets(
+            self.draft.rules(),
+            &mut sets[0..self.draft.header.n as usize],
+        );
+        sets
+    }
 
-// Judges the states by their five rows.
-fn judge_states<const K: usize>(draft: &Draft<'_>) -> Result<(), CheckRefusal>
-    requires draft { CutDraft K draft.now }
-    ensures { VerdictBy (raw draft.now.frames) state_rows result }
-{
-    let sets = firsts::<K>(draft);
-    if let Some(q) = lowest(draft, &sets, StateRow::Defined) {
-        return Err(CheckRefusal::Undefined(q));
+    // The five rows have one shape: what each closure asks and tells stands in its clauses.
+
+    // The lowest state that is not as defined.
+    fn undefined(&self) -> Option<u8>
+        ensures { Answers (file self.now.draft.now) defined result }
+    {
+        let draft = self.draft;
+        let sets = self.firsts();
+        lowest(
+            draft.header.s,
+            |q|
+                requires at { IsAt K draft.now q }
+                requires firsts { Firsts K (file draft.now) sets }
+                ensures { Decides result (StateGood (file draft.entry.now) q) }
+            { At::<K> { draft, q }.is_good(&sets) },
+        )
     }
-    if let Some(q) = lowest(draft, &sets, StateRow::Distinct) {
-        return Err(CheckRefusal::EqualToLower(q));
+
+    // The lowest state that is equal to a lower one.
+    fn equal_to_lower(&self) -> Option<u8>
+        ensures { Answers (file self.now.draft.now) distinct result }
+    {
+        let draft = self.draft;
+        lowest(
+            draft.header.s,
+            |q|
+                requires { IsAt K draft.now q }
+                ensures { Decides result (EqualToLower (table_of (file draft.entry.now)) q → ⊥) }
+            { At::<K> { draft, q }.is_distinct() },
+        )
     }
-    if let Some(q) = lowest(draft, &sets, StateRow::Found) {
-        return Err(CheckRefusal::NotFound(q));
+
+    // The lowest state after 0 that is no successor of a lower one. What an earlier row has shown is asked for: a type for it
+    // would serve this row alone.
+    fn not_found(&self) -> Option<u8>
+        requires { (m : ℕ) → m < (header_of (file self.now.draft.now)).s → SuccessorsOnce (file self.now.draft.now) m }
+        ensures { Answers (file self.now.draft.now) found result }
+    {
+        let draft = self.draft;
+        lowest(
+            draft.header.s,
+            |q|
+                requires at { IsAt K draft.now q }
+                requires once { (m : ℕ) → m < (header_of (file draft.now)).s → SuccessorsOnce (file draft.now) m }
+                ensures { Decides result (NotFound (table_of (file draft.entry.now)) q → ⊥) }
+            { At::<K> { draft, q }.is_found() },
+        )
     }
-    if let Some(q) = lowest(draft, &sets, StateRow::OneFits) {
-        return Err(CheckRefusal::TwoFit(q));
+
+    // The lowest state at which two rules fit one word.
+    fn two_fit(&self) -> Option<u8>
+        ensures { Answers (file self.now.draft.now) one_fits result }
+    {
+        let draft = self.draft;
+        lowest(
+            draft.header.s,
+            |q|
+                requires { IsAt K draft.now q }
+                ensures { Decides result (TwoFit (grammar_of (file draft.entry.now)) (table_of (file draft.entry.now)) q → ⊥) }
+            { Fits::new(At::<K> { draft, q }).one_fits() },
+        )
     }
-    if let Some(q) = lowest(draft, &sets, StateRow::Chosen) {
-        return Err(CheckRefusal::Mischosen(q));
+
+    // The lowest state at which the choices are not as defined.
+    fn mischosen(&self) -> Option<u8>
+        requires { (q : ℕ) → q < (header_of (file self.now.draft.now)).s → TwoFit (grammar_of (file self.now.draft.now)) (table_of (file self.now.draft.now)) q → ⊥ }
+        ensures { Answers (file self.now.draft.now) chosen result }
+    {
+        let draft = self.draft;
+        lowest(
+            draft.header.s,
+            |q|
+                requires at { IsAt K draft.now q }
+                requires one { TwoFit (grammar_of (file draft.now)) (table_of (file draft.now)) q → ⊥ }
+                ensures { Decides result (ChoicesGood (file draft.entry.now) q) }
+            { Fits::new(At::<K> { draft, q }).choices_good() },
+        )
     }
-    Ok(())
+
+    // Judges whether each state after 0 is a successor of a lower one.
+    fn judge_found(&self) -> Result<(), CheckRefusal>
+        requires { (m : ℕ) → m < (header_of (file self.now.draft.now)).s → SuccessorsOnce (file self.now.draft.now) m }
+        ensures { VerdictBy (file self.now.draft.now) (found ∷ []) result }
+    {
+        refuse(self.not_found(), CheckRefusal::NotFound)?;
+        Ok(())
+    }
+
+    // Judges the states by their five rows.
+    fn judge_states(&self) -> Result<(), CheckRefusal>
+        ensures { VerdictBy (file self.now.draft.now) state_rows result }
+    {
+        refuse(self.undefined(), CheckRefusal::Undefined)?;
+        refuse(self.equal_to_lower(), CheckRefusal::EqualToLower)?;
+        self.judge_found()?;
+        refuse(self.two_fit(), CheckRefusal::TwoFit)?;
+        refuse(self.mischosen(), CheckRefusal::Mischosen)?;
+        Ok(())
+    }
 }
 
 // Judges the states with the lookahead of the table.
 fn judge_lookahead(draft: &Draft<'_>) -> Result<(), CheckRefusal>
-    requires { Drafted draft.now }
-    ensures { VerdictBy (raw draft.now.frames) state_rows result }
+    ensures { VerdictBy (file draft.now) state_rows result }
 {
     if draft.header.k == 1 {
-        judge_states::<1>(draft)
+        Judge::<1> { draft }.judge_states()
     } else {
-        judge_states::<2>(draft)
+        Judge::<2> { draft }.judge_states()
     }
 }
 
 // Judges the grammar and then the states.
 fn judge_contents(draft: &Draft<'_>) -> Result<(), CheckRefusal>
-    requires { Drafted draft.now }
-    ensures { VerdictBy (raw draft.now.frames) (grammar_rows ++ state_rows) result }
+    ensures { VerdictBy (file draft.now) (grammar_rows ++ state_rows) result }
 {
     judge_grammar(draft)?;
     judge_lookahead(draft)
@@ -93,6 +170,7 @@ fn judge(frames: Frames<'_>) -> Result<(), CheckRefusal>
     judge_contents(&Draft::new(frames))
 }
 
+// The memories and the two numbers come apart, as load leaves them and the check has to test them.
 /// Checks a table in memory: Ok if nothing is wrong, or the earliest cause that applies, with the lowest frame,
 /// nonterminal or state that it applies to. It only reads.
 pub fn check<'a>(

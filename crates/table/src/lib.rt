@@ -1,11 +1,13 @@
 //! The check of a table.
 #![tactic(auto)]
 
+mod at;
 mod defined;
 mod draft;
 mod fits;
 mod judging;
 mod lookup;
+mod lowest;
 mod passed;
 mod refused;
 mod rows;

@@ -5,7 +5,7 @@ use words::Words;
 pub mod reading;
 
 /// A state: its kernel places and its lookahead words.
-#[derive(Clone, Copy)]
+#[derive(Clone, Copy, PartialEq, Eq)]
 pub struct State<const K: usize> {
     pub places: Places,
     pub words: Words<K>,

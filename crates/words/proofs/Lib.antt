@@ -1,3 +1,4 @@
 pub mod RowFacts
 pub mod Meetings
 pub mod WordsCut
+pub mod Made

@@ -3,12 +3,15 @@
 use Rattle.std.proofs.Common.{◌≡◌, ℕ, zero, suc, ◌+◌, ◌-◌, ◌*◌, ◌/◌, ◌%◌, ◌^◌, ◌<◌, ◌≤◌, Bool, true, false, cond, not, ◌&&◌, ◌||◌, eqb, ltb, ◌≢◌, List, [], ◌∷◌, length, get_or, drop, set, replicate, Decides, sym, refl, ap, ◌∙◌, subst, ap₂, ⊎_elim, arith, length-drop}
 use native.Mathlib.Nat.{pow-succ'}
 use lib.Bits.{bit_or}
+use Rattle.std.proofs.Math.Pow.{pow_mono}
+use Rattle.std.proofs.Math.Bool.{or_comm, or-false}
+use Rattle.std.proofs.lemmas.Nat.Bits.{bit_at-zero, bit_at-pow_same, bit_at-pow_other}
 use Rattle.std.proofs.lemmas.Nat.{or_lt, pow_below}
 use Rattle.std.proofs.lemmas.List.{get_or-replicate, get_or-set_same, get_or-set_other, length-set}
-use Rattle.std.proofs.lemmas.Bool.{cases_eq, cases_lt, cases_Bool, ne_eqb, eq-eqb, eqb-true, lt-ltb, ltb-true, and_from, and_parts, both_ways, cond_both}
+use Rattle.std.proofs.lemmas.Bool.{cases_eq, cases_Bool, ne_eqb, eq-eqb, eqb-true, lt-ltb, ltb-true, and_from, and_parts, both_ways, cond_both}
 use Rattle.std.proofs.lemmas.Bool.Decides.{same_from_decides}
 use Rattle.words.specs.Codes.{width, is_word, bit}
-use Rattle.words.specs.Bits.{bit_low, bit_half, bit_past, bit_or_lem, same_bits, width_most}
+use Rattle.words.specs.Bits.{bit_low, bit_half, bit_or_lem, same_bits, width_most}
 use Rattle.words.specs.Rows.{heads, row_longer, row_product, row_bit}
 use Rattle.words.specs.Sets.{has, member, has_of_test, any, begins, some_word, follows, joins, no_words, with_word, word_kind, same_set, Added}
 use Rattle.words.specs.declared.set.Words.{Words}
@@ -17,32 +20,18 @@ use Rattle.words.specs.Products.{has_product, member_product}
 use Rattle.words.specs.WordLaws.{nothing}
 
 pub bit_zero : (b : ℕ) → bit 0 b ≡ false
-bit_zero b = bit_past 0 0 b (omega arith) (omega arith)
-
-bit_one : (b : ℕ) → bit 1 b ≡ eqb b 0
-bit_one zero = refl
-bit_one (suc b) = bit_half 1 b ∙ bit_zero b ∙ sym (ne_eqb (suc b) 0 (λ e. omega arith))
+bit_zero b = ap (λ y. eqb y 1) (bit_at-zero b)
 
 -- a power of two has one bit
 bit_pow : (n b : ℕ) → bit (2 ^ n) b ≡ eqb b n
-bit_pow zero b = bit_one b
-bit_pow (suc n) zero =
-    let p = pow-succ' 2 n in
-    bit_low (2 ^ suc n) ∙ ne_eqb (2 ^ suc n % 2) 1 (λ e. omega arith) ∙ sym (ne_eqb 0 (suc n) (λ e. omega arith))
-bit_pow (suc n) (suc b) =
-    let p = pow-succ' 2 n in
-    let half : 2 ^ suc n / 2 ≡ 2 ^ n = omega arith in
-    bit_half (2 ^ suc n) b ∙ ap (λ x. bit x b) half ∙ bit_pow n b
-    ∙ ⊎_elim
-    (λ (e : b ≡ n). eq-eqb b n e ∙ sym (eq-eqb (suc b) (suc n) (ap suc e)))
-    (λ ne. ne_eqb b n ne ∙ sym (ne_eqb (suc b) (suc n) (λ e. ne (omega arith))))
+bit_pow n b =
+    ⊎_elim
+    (λ (e : b ≡ n). ap (bit (2 ^ n)) e ∙ ap (λ y. eqb y 1) (bit_at-pow_same n) ∙ sym (eq-eqb b n e))
+    (λ ne. ap (λ y. eqb y 1) (bit_at-pow_other n b ne) ∙ sym (ne_eqb b n ne))
     (cases_eq b n)
 
-pow_up : (i j : ℕ) → i ≤ j → 2 ^ i ≤ 2 ^ j
-pow_up i j h = ⊎_elim (λ l. let p = pow_below i j l in omega arith) (λ (g : j ≤ i). let e : i ≡ j = omega arith in rw e (omega arith)) (cases_lt i j)
-
 pub row_fits : {k : ℕ} (s : Words k) (a : ℕ) → a < 21 → get_or s.rows a 0 < 2 ^ 21
-row_fits {k} s a h = let f = s.fits a h in let p = pow_up (width k a) 21 (width_most k a) in omega arith
+row_fits {k} s a h = let f = s.fits a h in let p = pow_mono (width_most k a) in omega arith
 
 -- ---- no word
 
@@ -55,10 +44,6 @@ bottom_is {k} s e = same_set s (no_words k) (λ a b ha hb.
 module _ {k : ℕ} (s : Words k) (a b : ℕ) where
   abbrev here : ℕ
   here = bit_or (get_or s.rows a 0) (2 ^ b)
-
-  or_false : (x : Bool) → x ≡ (x || false)
-  or_false true = refl
-  or_false false = refl
 
   pub insert_fits : is_word k a b ≡ true → (c : ℕ) → c < 21 → get_or (set s.rows a here) c 0 < 2 ^ width k c
   insert_fits ok c hc =
@@ -88,14 +73,14 @@ module _ {k : ℕ} (s : Words k) (a b : ℕ) where
           ∙ ap (λ v. has s c d || (v && eqb d b)) (sym (eq-eqb c a e)))
           (λ ne.
           ap (λ x. bit x d) (get_or-set_other s.rows a c here 0 ne)
-          ∙ or_false (has s c d)
+          ∙ sym (or-false (has s c d))
           ∙ ap (λ v. has s c d || (v && eqb d b)) (sym (ne_eqb c a ne)))
           (cases_eq c a)
 
   -- the numbers of no word add nothing
   pub insert_none : is_word k a b ≡ false → s ≡ with_word s a b
   insert_none out = same_set s (with_word s a b) (λ c d hc hd.
-      or_false (has s c d) ∙ ap (λ v. has s c d || v) (sym (differ c d hc hd)) ∙ sym (has_of_test k (λ c d. has s c d || (eqb c a && eqb d b)) c d hc hd))
+      sym (or-false (has s c d)) ∙ ap (λ v. has s c d || v) (sym (differ c d hc hd)) ∙ sym (has_of_test k (λ c d. has s c d || (eqb c a && eqb d b)) c d hc hd))
     where
       differ : (c d : ℕ) → c < 21 → d < width k c → (eqb c a && eqb d b) ≡ false
       differ c d hc hd =
@@ -136,7 +121,7 @@ pub heads_drop_lt : (xs : List ℕ) → length xs ≡ 21 → (a : ℕ) → heads
 heads_drop_lt xs e a =
     let h = heads_lt (drop a xs) in
     let short : length (drop a xs) ≤ 21 = simp length-drop (omega arith) in
-    let p = pow_up (length (drop a xs)) 21 short in
+    let p = pow_mono short in
     omega arith
 
 bit_heads : (xs : List ℕ) (a : ℕ) → bit (heads xs) a ≡ not (eqb (get_or xs a 0) 0)
@@ -204,21 +189,11 @@ module _ (x y : ℕ) (after : ℕ) where
   even_row e zero = let low : bit x 0 ≡ false = bit_low x ∙ e in low ∙ sym (ap (λ v. v && bit after 0) low)
   even_row e (suc b) =
       let low : bit x 0 ≡ false = bit_low x ∙ e in
-      or_nothing (bit x (suc b)) ∙ sym (ap (λ v. bit x (suc b) || (v && bit after (suc b))) low)
-    where
-      or_nothing : (v : Bool) → v ≡ (v || false)
-      or_nothing true = refl
-      or_nothing false = refl
+      sym (or-false (bit x (suc b))) ∙ sym (ap (λ v. bit x (suc b) || (v && bit after (suc b))) low)
 
   longer_bit : (b : ℕ) → bit (row_longer x after) b ≡ own_bit b
   longer_bit b =
       cond_both (eqb (x % 2) 1) (bit_or (x - 1) after) x (λ n. bit n b ≡ own_bit b) (λ e. odd_row (eqb-true (x % 2) 1 e) b) (λ e. even_row e b)
-
-  or_comm : (v w : Bool) → (v || w) ≡ (w || v)
-  or_comm true true = refl
-  or_comm true false = refl
-  or_comm false true = refl
-  or_comm false false = refl
 
   pub product_bit : (empty : Bool) (b : ℕ) → bit (row_product x y empty after) b ≡ row_bit x y empty after b
   product_bit true zero = bit_or_lem (row_longer x after) y 0 ∙ ap (λ v. v || bit y 0) (longer_bit 0) ∙ or_comm (own_bit 0) (bit y 0)
@@ -253,7 +228,7 @@ module _ {k : ℕ} (s t : Words k) where
   after_row one = cond one 1 (heads t.rows)
 
   follows_is : (one : Bool) (b : ℕ) → b < 21 → bit (after_row one) b ≡ follows one t b
-  follows_is true b h = bit_one b
+  follows_is true b h = bit_pow 0 b
   follows_is false b h = sym (begins_is t b h)
 
   after_fits : (a : ℕ) → after_row (ltb k 2) < 2 ^ width k (suc a)

@@ -1,21 +1,20 @@
 -- Bits of a number.
 use Rattle.std.specs.Prelude.{◌≡◌, ℕ, zero, suc, ◌+◌, ◌*◌, ◌/◌, ◌%◌, ◌^◌, ◌<◌, ◌≤◌, Bool, true, false, cond, ◌&&◌, ◌||◌, eqb, ◌==◌, nat_lt, refl}
-use Rattle.std.proofs.Common.{sym, ap, ◌∙◌, div-one, arith}
+use Rattle.std.proofs.Common.{min, max, sym, ap, ◌∙◌, arith}
 use Rattle.std.proofs.Math.Nat.{pow-succ'}
 use Rattle.std.specs.Int.Bits.{bit_and, bit_or}
-use Rattle.std.proofs.lemmas.Nat.{shr-shr, or_shr, or_mod, and_shr, and_mod}
+use Rattle.std.specs.Int.{bit_at}
+use Rattle.std.proofs.lemmas.Nat.Bits.{bit_at_lowest, bit_at-suc, bit_at-lt, bit_at_above, bit_at_or, bit_at_and, same_from_bits_below}
 use Rattle.std.proofs.lemmas.Bool.{eqb-true, eqb-false, eq-eqb, ne_eqb}
 use Rattle.words.specs.Codes.{width, bit, mask}
 
 -- Bit 0 is the last digit.
 pub bit_low : (x : ℕ) → bit x 0 ≡ (x % 2 == 1)
-bit_low x = ap (λ y. eqb (y % 2) 1) (div-one x)
+bit_low x = ap (λ y. eqb y 1) (bit_at_lowest x)
 
 -- The other bits are those of the half.
 pub bit_half : (x b : ℕ) → bit x (suc b) ≡ bit (x / 2) b
-bit_half x b =
-    let e : suc b ≡ 1 + b = omega arith in
-    ap (λ n. eqb (x / 2 ^ n % 2) 1) e ∙ ap (λ y. eqb (y % 2) 1) (sym (shr-shr x 1 b))
+bit_half x b = ap (λ y. eqb y 1) (bit_at-suc x b)
 
 -- A row of n bits is below 2 ^ n.
 pub mask_lt : (g : ℕ → Bool) (n : ℕ) → mask g n < 2 ^ n
@@ -48,23 +47,15 @@ same_digit x y hx hy e = go (x == 1) refl
 
 -- Numbers of n bits with the same bits are equal.
 pub same_bits : (n x y : ℕ) → x < 2 ^ n → y < 2 ^ n → ((b : ℕ) → b < n → bit x b ≡ bit y b) → x ≡ y
-same_bits zero x y hx hy e = omega arith
-same_bits (suc n) x y hx hy e =
-    let p = pow-succ' 2 n in
-    let low : x % 2 ≡ y % 2 = same_digit (x % 2) (y % 2) (omega arith) (omega arith) (sym (bit_low x) ∙ e 0 (omega arith) ∙ bit_low y) in
-    let high : x / 2 ≡ y / 2 =
-    same_bits n (x / 2) (y / 2) (omega arith) (omega arith) (λ b h. sym (bit_half x b) ∙ e (suc b) (omega arith) ∙ bit_half y b) in
-    omega arith
+same_bits n x y hx hy e =
+    same_from_bits_below n x y hx hy (λ b h. same_digit (bit_at x b) (bit_at y b) (bit_at-lt x b) (bit_at-lt y b) (e b h))
 
 -- A number of n bits has no bit from n on.
 pub bit_past : (n x b : ℕ) → x < 2 ^ n → n ≤ b → bit x b ≡ false
-bit_past zero x zero hx h = ne_eqb (x / 2 ^ 0 % 2) 1 (λ e. let d = div-one x in omega arith)
-bit_past zero x (suc b) hx h = bit_half x b ∙ bit_past zero (x / 2) b (omega arith) (omega arith)
-bit_past (suc n) x zero hx h = absurd (omega arith)
-bit_past (suc n) x (suc b) hx h = let p = pow-succ' 2 n in bit_half x b ∙ bit_past n (x / 2) b (omega arith) (omega arith)
+bit_past n x b hx h = ap (λ y. eqb y 1) (bit_at_above x n b hx h)
 
 -- Or, at a digit.
-or_digit : (x y : ℕ) → x < 2 → y < 2 → (bit_or x y == 1) ≡ (x == 1 || y == 1)
+or_digit : (x y : ℕ) → x < 2 → y < 2 → (max x y == 1) ≡ (x == 1 || y == 1)
 or_digit zero zero hx hy = refl
 or_digit zero (suc zero) hx hy = refl
 or_digit zero (suc (suc y)) hx hy = absurd (omega arith)
@@ -75,13 +66,10 @@ or_digit (suc (suc x)) y hx hy = absurd (omega arith)
 
 -- Or, at a bit.
 pub bit_or_lem : (x y b : ℕ) → bit (bit_or x y) b ≡ (bit x b || bit y b)
-bit_or_lem x y b =
-    ap (λ z. eqb (z % 2) 1) (or_shr x y b)
-    ∙ ap (λ z. eqb z 1) (or_mod (x / 2 ^ b) (y / 2 ^ b) 1)
-    ∙ or_digit (x / 2 ^ b % 2) (y / 2 ^ b % 2) (omega arith) (omega arith)
+bit_or_lem x y b = ap (λ z. eqb z 1) (bit_at_or x y b) ∙ or_digit (bit_at x b) (bit_at y b) (bit_at-lt x b) (bit_at-lt y b)
 
 -- And, at a digit.
-and_digit : (x y : ℕ) → x < 2 → y < 2 → (bit_and x y == 1) ≡ (x == 1 && y == 1)
+and_digit : (x y : ℕ) → x < 2 → y < 2 → (min x y == 1) ≡ (x == 1 && y == 1)
 and_digit zero zero hx hy = refl
 and_digit zero (suc zero) hx hy = refl
 and_digit zero (suc (suc y)) hx hy = absurd (omega arith)
@@ -92,10 +80,7 @@ and_digit (suc (suc x)) y hx hy = absurd (omega arith)
 
 -- And, at a bit.
 pub bit_and_lem : (x y b : ℕ) → bit (bit_and x y) b ≡ (bit x b && bit y b)
-bit_and_lem x y b =
-    ap (λ z. eqb (z % 2) 1) (and_shr x y b)
-    ∙ ap (λ z. eqb z 1) (and_mod (x / 2 ^ b) (y / 2 ^ b) 1)
-    ∙ and_digit (x / 2 ^ b % 2) (y / 2 ^ b % 2) (omega arith) (omega arith)
+bit_and_lem x y b = ap (λ z. eqb z 1) (bit_at_and x y b) ∙ and_digit (bit_at x b) (bit_at y b) (bit_at-lt x b) (bit_at-lt y b)
 
 -- Each row has a bit.
 pub width_pos : (k a : ℕ) → 0 < width k a

@@ -1,12 +1,16 @@
 -- Sets of words have the laws of a kind of value. A law is shown by the words on its two sides; a set has at most 421 words.
-use Rattle.std.specs.Prelude.{◌≡◌, ℕ, zero, suc, ◌<◌, ◌≤◌, Bool, true, false, cond, ◌||◌, ◌⊎◌, List, [], ◌∷◌, ◌++◌, take, Decides, ◌≢◌, nat_lt, refl}
+use Rattle.std.specs.Prelude.{◌≡◌, ℕ, zero, suc, ◌<◌, ◌≤◌, Bool, true, false, cond, ◌||◌, ◌⊎◌, List, [], ◌∷◌, ◌++◌, take, Decides, ◌==◌, ◌≢◌, nat_lt, refl}
 use Rattle.std.proofs.Common.{sym, ap, ◌∙◌, subst, inl, inr, ⊎_elim, append_assoc, append-nil, le_refl, arith}
+use Rattle.std.proofs.Math.Bool.{or_assoc, or_comm, or_self}
 use Rattle.std.proofs.lemmas.Bool.{cases_lt, or_cases, or_left, or_right, false≢true}
 use Rattle.std.proofs.lemmas.Bool.Decides.{same_from_decides}
+use Rattle.std.proofs.lemmas.Slice.Eq.{slice_eq-Decides}
+use Rattle.std.specs.Cmp.{unsigned_Decides}
+use Rattle.std.specs.Cmp.Lexicographic.{pointwise}
 use Rattle.grammar.proofs.Lists.{take_join, take_join_left}
 use Rattle.solver.specs.Laws.{Laws}
 use Rattle.words.specs.Codes.{cut, width}
-use Rattle.words.specs.Sets.{has, passes, member, Joined, no_words, word_kind, same_set, row_count, count}
+use Rattle.words.specs.Sets.{has, passes, member, Joined, no_words, word_kind, by_rows, same_set, row_count, count}
 use Rattle.words.specs.declared.set.Words.{Words}
 use Rattle.words.specs.Members.{has_test, passes_same, member_join, has_join, member_with, same_words, cut_short}
 use Rattle.words.specs.Products.{member_product}
@@ -176,28 +180,14 @@ module _ (k : ℕ) where
   join_associative s t r = same_words _ _ (λ w.
       member_join (s ∪ t) r w ∙ ap (λ x. x || member r w) (member_join s t w) ∙ or_assoc (member s w) (member t w) (member r w)
       ∙ sym (member_join s (t ∪ r) w ∙ ap (λ x. member s w || x) (member_join t r w)))
-    where
-      or_assoc : (a b c : Bool) → ((a || b) || c) ≡ (a || (b || c))
-      or_assoc true b c = refl
-      or_assoc false b c = refl
 
   -- Unions, in any order.
   join_commutative : (s t : Words k) → s ∪ t ≡ t ∪ s
   join_commutative s t = same_words _ _ (λ w. member_join s t w ∙ or_comm (member s w) (member t w) ∙ sym (member_join t s w))
-    where
-      or_comm : (a b : Bool) → (a || b) ≡ (b || a)
-      or_comm true true = refl
-      or_comm true false = refl
-      or_comm false true = refl
-      or_comm false false = refl
 
   -- A union with itself.
   join_idempotent : (s : Words k) → s ∪ s ≡ s
   join_idempotent s = same_words _ _ (λ w. member_join s s w ∙ or_self (member s w))
-    where
-      or_self : (a : Bool) → (a || a) ≡ a
-      or_self true = refl
-      or_self false = refl
 
   -- A union with the empty set.
   bottom_joined : (s : Words k) → no_words k ∪ s ≡ s
@@ -272,6 +262,12 @@ module _ (k : ℕ) where
       let w = width_up_to a in
       let e = ones_total (width k a) in
       omega arith)
+
+  -- Sets are equal where their rows are.
+  pub rows_decide : (s t : Words k) → Decides (pointwise ◌==◌ s.rows t.rows) (s ≡ t)
+  rows_decide s t =
+      let d = slice_eq-Decides unsigned_Decides s.rows t.rows _ refl in
+      (λ h. by_rows s t (d.0 h), λ e. d.1 (ap (λ s. s.rows) e))
 
   -- The laws, with a chain of 421 steps.
   pub word_laws : Laws (word_kind k) count 421

@@ -9,7 +9,7 @@ use solver::{Rule, solve};
 
 /// FIRST of each nonterminal: the token strings that it derives, each cut to its first K tokens. The sets are those of 32,
 /// 33 and so on, and what they were before does not count.
-pub fn first_sets<const K: usize>(rules: &[Rule], sets: &mut [Words<K>])
+pub fn first_sets<const K: usize>(rules: &[Rule<'_>], sets: &mut [Words<K>])
     ensures first { AreFirst K rules.now sets.new }
     ensures as_many { length sets.new ≡ length sets.old }
 {
@@ -17,8 +17,9 @@ pub fn first_sets<const K: usize>(rules: &[Rule], sets: &mut [Words<K>])
     least_are_first(rules, sets);
 }
 
-// A step of the proof, which does nothing: the least solution in sets of words is FIRST.
-fn least_are_first<const K: usize>(_rules: &[Rule], _sets: &[Words<K>])
+// A step of the proof, which does nothing: the least solution in sets of words is FIRST. With the lemma named
+// on `first_sets` in its place, the proof did not close.
+fn least_are_first<const K: usize>(_rules: &[Rule<'_>], _sets: &[Words<K>])
     requires { LeastOf (word_kind K) _rules.now _sets.now }
     ensures { AreFirst K _rules.now _sets.now }
 {}

@@ -9,7 +9,7 @@ pub mod value;
 ///
 /// Row a has the words that begin with token a: bit 0 is the word a, and bit b the word a b. Row 0 has only bit 0, the
 /// empty word. Without other bits, two sets with the same words are equal.
-#[derive(Clone, Copy)]
+#[derive(Clone, Copy, PartialEq, Eq)]
 pub struct Words<const K: usize> {
     rows: [u32; 21],
     ghost long: { length rows ≡ 21 },

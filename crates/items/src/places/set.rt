@@ -1,21 +1,17 @@
 //! What a set of places has.
-ghost use Rattle.std.specs.Prelude.{◌≡◌, ℕ, ◌+◌, ◌*◌, ◌<◌, true, false, ◌&&◌, ◌||◌, List, Decides};
+ghost use Rattle.std.specs.Prelude.{◌≡◌, false, ◌&&◌, ◌||◌, Decides};
 ghost use Rattle.grammar.specs.Item.{Item};
-ghost use Rattle.items.specs.Entries.{items, mentions};
-ghost use Rattle.items.specs.Sets.{has, in_grid, same_item};
+ghost use Rattle.items.specs.Entries.{item_of, mentions};
+ghost use Rattle.items.specs.Sets.{has, alike, in_grid, same_item};
 
 use super::Places;
-
-/// The number of dots that a rule may have.
-const DOTS: usize = 7;
-
-/// The number of rules, the start rule too.
-const RULES: usize = 61;
+use crate::place::Place;
 
 impl Places {
     /// The set of no place.
     pub fn none() -> Places
-        ensures { (i : Item) → has result i ≡ false }
+        ensures nothing { (i : Item) → has result i ≡ false }
+        ensures alone { (s : Places) → Decides (alike s result) ((i : Item) → has s i ≡ false) }
     {
         Places {
             marks: [false; 427],
@@ -30,29 +26,19 @@ impl Places {
     }
 
     /// Whether a place is in the set.
-    pub fn contains(&self, rule: u8, dot: u8) -> bool
-        ensures { result ≡ has self.now (record { rule = rule; dot = dot }) }
+    pub fn contains(&self, place: Place) -> bool
+        ensures { result ≡ has self.now (item_of place) }
     {
-        if (rule as usize) >= RULES {
-            return false;
-        }
-        (dot as usize) < DOTS && self.marks[DOTS * rule as usize + dot as usize]
+        place.number().is_some_and(|j| self.marks[j])
     }
 
     /// Puts a place into the set; beyond the set's bounds there is none.
-    pub fn insert(&mut self, rule: u8, dot: u8)
-        ensures { (i : Item) → has self.new i ≡ (has self.old i || (in_grid i && same_item i (record { rule = rule; dot = dot }))) }
+    pub fn insert(&mut self, place: Place)
+        ensures { (i : Item) → has self.new i ≡ (has self.old i || (in_grid i && same_item i (item_of place))) }
     {
-        if (rule as usize) < RULES && (dot as usize) < DOTS {
-            self.marks[DOTS * rule as usize + dot as usize] = true;
+        if let Some(j) = place.number() {
+            self.marks[j] = true;
         }
-    }
-
-    /// Whether two sets have the same places.
-    pub fn same(&self, other: &Places) -> bool
-        ensures { Decides result ((i : Item) → has self.now i ≡ has other.now i) }
-    {
-        self.marks == other.marks
     }
 
     /// The set of the places in a list of pairs of a rule and a dot.
@@ -60,10 +46,11 @@ impl Places {
         ensures { (i : Item) → has result i ≡ (in_grid i && mentions pairs.now i) }
     {
         let mut places = Places::none();
-        let mut at = 0;
-        'pairs: while at + 1 < pairs.len() {
-            places.insert(pairs[at], pairs[at + 1]);
-            at += 2;
+        for pair in pairs.chunks_exact(2) {
+            places.insert(Place {
+                rule: pair[0],
+                dot: pair[1],
+            });
         }
         places
     }
@@ -72,6 +59,6 @@ impl Places {
     pub fn is_empty(&self) -> bool
         ensures { Decides result ((i : Item) → has self.now i ≡ false) }
     {
-        self.same(&Places::none())
+        *self == Places::none()
     }
 }

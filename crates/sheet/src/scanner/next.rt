@@ -1,60 +1,43 @@
 //! Asking a scanner.
-ghost use Rattle.std.specs.Prelude.{◌≡◌, ◌+◌, ◌^◌, ◌<◌};
-ghost use Rattle.sheet.specs.Lexemes.{kind_of};
-ghost use Rattle.sheet.specs.Scan.{line_after, column_after};
+ghost use Rattle.std.specs.Prelude.{◌≡◌, ◌≢◌};
+ghost use Rattle.sheet.specs.Scan.{front, gap};
 ghost use Rattle.sheet.specs.Scanners.{scanned, meaning_of, Gives};
 ghost use Rattle.sheet.specs.Short.{few_left};
 
-use crate::cut::{Piece, cut};
+use crate::cut::cut;
 use crate::fault::ScanFault;
-use crate::lexeme::Lexeme;
+use crate::lexeme::PlacedLexeme;
+use crate::run::blanks;
 use crate::scanner::Scanner;
-use crate::span::{Span, span_len};
 use source::{Entry, Faulted, Place, Source, Token};
 
-/// What a scanner gives: a lexeme and where it stands, or the end.
-#[derive(Clone, Copy)]
-pub enum Item<'a> {
-    Lexeme(Lexeme<'a>, Place),
-    End(Place),
-}
-
-/// The line and the column behind a lexeme of so many bytes that stands here.
-fn place_behind(lexeme: Lexeme, len: u32, line: u32, column: u32) -> (u32, u32)
-    requires { (line < 2 ^ 31) × (column + len < 2 ^ 31) }
-    ensures line { result.0 ≡ line_after (kind_of lexeme.entry) line }
-    ensures column { result.1 ≡ column_after (kind_of lexeme.entry) len column }
-{
-    if lexeme.is_line_end() {
-        (line + 1, 1)
-    } else {
-        (line, column + len)
-    }
-}
-
 impl<'a> Scanner<'a> {
+    /// Passes the blanks at the front: they are no part of what is to come.
+    #[tactic(auto, using(crate::proofs::Steps::passes, crate::proofs::Steps::passed))]
+    fn pass_blanks(&mut self)
+        ensures same { scanned self.new ≡ scanned self.old }
+        ensures no_blank { front self.new.rest.now ≢ gap }
+    {
+        let blanks = blanks(self.rest);
+        self.rest = &self.rest[blanks..];
+        self.at = self.at.along(blanks as u32);
+    }
+
     /// Gives the first lexeme and drops it; the end or a fault stays, however often it is asked for.
-    pub fn next_lexeme(&mut self) -> Result<Item<'a>, Faulted<ScanFault>>
+    #[tactic(auto, using(crate::proofs::Steps::gives_fault))]
+    pub fn next_lexeme(&mut self) -> Result<Entry<PlacedLexeme<'a>>, Faulted<ScanFault>>
         ensures { Gives (scanned self.old) result (scanned self.new) }
     {
-        let blanks = span_len(self.rest, Span::Blanks);
-        let (_, text) = self.rest.split_at(blanks);
-        let line = self.line;
-        let column = self.column + blanks as u32;
-        let place = Place::Two(line, column);
-        match cut(text) {
-            Piece::Lexeme(lexeme) => {
-                let len = lexeme.text().len();
-                let (_, rest) = text.split_at(len);
-                let (line, column) = place_behind(lexeme, len as u32, line, column);
-                self.rest = rest;
-                self.line = line;
-                self.column = column;
-                Ok(Item::Lexeme(lexeme, place))
-            }
-            Piece::Fault(fault) => Err(Faulted { fault, place }),
-            Piece::End => Ok(Item::End(place)),
+        self.pass_blanks();
+        let place = Place::from(self.at);
+        if self.rest.is_empty() {
+            return Ok(Entry::End(place));
         }
+        let lexeme = cut(self.rest).map_err(|fault| Faulted { fault, place })?;
+        let len = lexeme.text().len();
+        self.rest = &self.rest[len..];
+        self.at = self.at.behind(lexeme, len as u32);
+        Ok(Entry::Given(PlacedLexeme { lexeme, place }))
     }
 }
 
@@ -63,15 +46,12 @@ impl<'a> Source for Scanner<'a> {
 
     ghost meaning = { λ s. meaning_of (scanned s) };
 
-    ghost short = { λ s. few_left s.rest.now s.line s.column s.few.0 s.few.2 };
+    ghost short = { λ s. few_left s.rest.now s.at.line s.at.column s.few.0 s.few.2 };
 
-    fn next(&mut self) -> Result<Entry, Faulted<ScanFault>> {
-        match self.next_lexeme()? {
-            Item::Lexeme(lexeme, place) => Ok(Entry::Given(Token {
-                kind: lexeme.kind(),
-                place,
-            })),
-            Item::End(place) => Ok(Entry::End(place)),
-        }
+    fn next(&mut self) -> Result<Entry<Token>, Faulted<ScanFault>> {
+        Ok(match self.next_lexeme()? {
+            Entry::Given(placed) => Entry::Given(Token::from(placed)),
+            Entry::End(place) => Entry::End(place),
+        })
     }
 }

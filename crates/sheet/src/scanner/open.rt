@@ -5,10 +5,12 @@ ghost use Rattle.sheet.specs.Laws.{SheetLaw};
 ghost use Rattle.sheet.specs.Scan.{scan};
 ghost use Rattle.sheet.specs.Scanners.{scanned};
 
+use crate::position::Position;
 use crate::scanner::Scanner;
-use source::TooLong;
+use source::{TooLong, check_length};
 
-const MOST: usize = 60_000;
+// Where the first byte of a sheet stands.
+const FRONT: Position = Position { line: 1, column: 1 };
 
 impl<'a> Scanner<'a> {
     /// A scanner of the empty sheet.
@@ -17,23 +19,20 @@ impl<'a> Scanner<'a> {
     {
         Scanner {
             rest: &[],
-            line: 1,
-            column: 1,
+            at: FRONT,
         }
     }
 
-    /// Stands at the front of this sheet from now on. More than 60,000 bytes are refused, and the scanner is as it was.
-    pub fn open(&mut self, sheet: &'a [u8]) -> Result<(), TooLong>
-        ensures opens { Opening scanned self.old (length sheet.now) (scan sheet.now) result self.new }
+    /// Stands at the front of this sheet. More than 60,000 bytes are refused.
+    #[tactic(auto, using(crate::proofs::Laws::sheet_law))]
+    pub fn open(sheet: &'a [u8]) -> Result<Self, TooLong>
+        ensures opens { Opening scanned (length sheet.now) (scan sheet.now) result }
         ensures means { SheetLaw sheet.now (scan sheet.now) }
     {
-        let length = sheet.len();
-        if length > MOST {
-            return Err(TooLong { length });
-        }
-        self.rest = sheet;
-        self.line = 1;
-        self.column = 1;
-        Ok(())
+        check_length(sheet.len())?;
+        Ok(Scanner {
+            rest: sheet,
+            at: FRONT,
+        })
     }
 }

@@ -10,6 +10,7 @@ ghost use Rattle.table.specs.States.{answered};
 use super::CheckedTable;
 use crate::lookup::{choice_of, successor_of};
 use frames::{Frames, Header};
+use symbols::Word;
 
 /// Makes a checked table of one that the check has answered with Ok. It cannot refuse.
 pub fn checked<'a>(
@@ -41,10 +42,10 @@ impl CheckedTable<'_> {
         successor_of(self.frames, state, symbol)
     }
 
-    /// The rule chosen at a state for a nonterminal and a word, the second symbol 0 where there is none, if there is one.
-    pub fn choice(self, state: u8, nonterminal: u8, first: u8, second: u8) -> Option<u8>
-        ensures { result ≡ answered ((table_of (contents self.entry)).choice state nonterminal (word_of first second)) }
+    /// The rule chosen at a state for a nonterminal and a word, if there is one.
+    pub fn choice(self, state: u8, nonterminal: u8, word: Word) -> Option<u8>
+        ensures { result ≡ answered ((table_of (contents self.entry)).choice state nonterminal (word_of word.first word.second)) }
     {
-        choice_of(self.frames, state, nonterminal, first, second)
+        choice_of(self.frames, state, nonterminal, word)
     }
 }

@@ -5,6 +5,7 @@ ghost use Rattle.words.specs.Sets.{member, with_word, Added, Meet};
 ghost use Rattle.words.specs.Theorems.{CutAsWords, WordsAreSets};
 
 use super::Words;
+use symbols::Word;
 
 // How many rows there are, and bits of a row.
 const WIDTH: u8 = 21;
@@ -29,38 +30,37 @@ fn share_a_bit(row: u32, other: u32) -> bool
     row & other != 0
 }
 
-// Whether the two numbers are those of a word of at most k tokens.
-fn give_a_word(k: usize, first: u8, second: u8) -> bool
-    ensures { result ≡ is_word k first second }
+// Whether the word is one of at most k tokens, each from 1 to 20.
+fn fits(k: usize, word: Word) -> bool
+    ensures { result ≡ is_word k word.first word.second }
 {
-    if first == 0 || k < 2 {
-        first < WIDTH && second == 0
+    if word.first == 0 || k < 2 {
+        word.first < WIDTH && word.second == 0
     } else {
-        first < WIDTH && second < WIDTH
+        word.first < WIDTH && word.second < WIDTH
     }
 }
 
 impl<const K: usize> Words<K> {
-    /// Whether the word of these tokens is in the set.
-    pub fn contains(&self, first: u8, second: u8) -> bool
-        ensures { result ≡ member self.now (word_of first second) }
+    /// Whether the word is in the set.
+    pub fn contains(&self, word: Word) -> bool
+        ensures { result ≡ member self.now (word_of word.first word.second) }
     {
-        if first >= WIDTH || second >= WIDTH {
-            return false;
-        }
-        has_bit(self.rows[first as usize], second)
+        let row = self.rows.get(usize::from(word.first)).copied().unwrap_or(0);
+        word.second < WIDTH && has_bit(row, word.second)
     }
 
-    /// Adds the word of these tokens. Where there is no such word of at most K tokens, nothing is added.
-    pub fn insert(&mut self, first: u8, second: u8)
-        ensures adds { (w : List ℕ) → Decides (member self.new w) (Added self.old first second w) }
-        ensures writes { self.new ≡ with_word self.old first second }
+    /// Adds the word. Where it is none of at most K tokens, nothing is added.
+    pub fn insert(&mut self, word: Word)
+        ensures adds { (w : List ℕ) → Decides (member self.new w) (Added self.old word.first word.second w) }
+        ensures writes { self.new ≡ with_word self.old word.first word.second }
     {
-        if !give_a_word(K, first, second) {
+        if !fits(K, word) {
             return;
         }
         let mut rows = self.rows;
-        rows[first as usize] = with_bit(rows[first as usize], second);
+        let first = usize::from(word.first);
+        rows[first] = with_bit(rows[first], word.second);
         *self = Words { rows };
     }
 
@@ -68,19 +68,15 @@ impl<const K: usize> Words<K> {
     pub fn meets(self, other: Self) -> bool
         ensures { Decides result (Meet self.entry other.entry) }
     {
-        for a in 0..21 {
-            if share_a_bit(self.rows[a], other.rows[a]) {
-                return true;
-            }
-        }
-        false
+        self.rows
+            .iter()
+            .zip(&other.rows)
+            .any(|(row, other)| share_a_bit(*row, *other))
     }
 }
 
 /// The set's theorems: its operations are union and concatenation cut to K tokens, for any grammar of at most 20 tokens,
 /// and sets with the same words are equal.
-pub fn words_stand<const K: usize>() -> u8
+pub fn words_stand<const K: usize>()
     ensures { CutAsWords K × WordsAreSets K }
-{
-    0
-}
+{}

@@ -1,8 +1,10 @@
-use Rattle.std.proofs.Common.{◌≡◌, ℕ, ◌<◌, length}
+use Rattle.std.proofs.Common.{◌≡◌, ℕ, ◌<◌, List, length}
+use Rattle.words.specs.Sets.{member}
 use Rattle.frames.specs.Views.{raw}
-use Rattle.table.specs.Fitted.{Fitting, set_of}
+use Rattle.table.specs.Fitted.{fitting_words, set_of}
 use Rattle.table.proofs.fits.fittings.Given as goal
 
 -- the rules so far have their words
 abbrev pub invariant-loop-r : goal.invariant-loop-r
-invariant-loop-r g l = (length l.fits ≡ 60) × ((k : ℕ) → k < l.r → Fitting (raw l.draft.frames) l.q k (set_of l.fits k))
+invariant-loop-r g l =
+    (length l.fits ≡ 60) × ((k : ℕ) → k < l.r → (w : List ℕ) → member (set_of l.fits k) w ≡ member (fitting_words g.row.K (raw l.frames) l.q k) w)

@@ -24,4 +24,4 @@ pub returns : goal.returns
 returns c =
     let R = raw c.args.frames in
     verdict_then R form_rows (grammar_rows ++ state_rows) c.judge_contents.result (verdict_goods R form_rows c.in_ok-judge_form.ensures)
-    (subst (λ (S : Raw). VerdictBy S (grammar_rows ++ state_rows) c.judge_contents.result) c.new.ensures.same c.judge_contents.ensures)
+    (subst (λ (S : Raw). VerdictBy S (grammar_rows ++ state_rows) c.judge_contents.result) c.new.ensures c.judge_contents.ensures)

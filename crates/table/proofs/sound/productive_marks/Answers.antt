@@ -12,7 +12,7 @@ use Rattle.table.proofs.Marking.{front_mark}
 use Rattle.table.proofs.sound.productive_marks.Goals as goal
 
 pub slice_bounds-marks-end : goal.slice_bounds-marks-end
-slice_bounds-marks-end c = omega (arith, n_is c.args.draft.now c.requires, (numbers c.args.draft.now c.requires).n_high)
+slice_bounds-marks-end c = omega (arith, n_is c.args.draft.now, (numbers c.args.draft.now).n_high)
 
 pub returns : goal.returns
 returns c =
@@ -21,7 +21,7 @@ returns c =
     let g = grammar_of (raw d.frames) in
     let vs = c.productive.new.values in
     let tells = subst (λ (ρs : List Rule). TellsProductive ρs vs) c.rules.ensures c.productive.ensures.tells in
-    let small = (numbers d c.requires).n_high in
-    let many : length vs ≡ g.n = c.productive.ensures.as_many ∙ length-take-le (d.header.n - 0) (replicate 24 (record { 0 = false })) (omega (arith, n_is d c.requires, small)) ∙ omega (arith, n_is d c.requires) in
+    let small = (numbers d).n_high in
+    let many : length vs ≡ g.n = c.productive.ensures.as_many ∙ length-take-le (d.header.n - 0) (replicate 24 (record { 0 = false })) (omega (arith, n_is d, small)) ∙ omega (arith, n_is d) in
     subst (λ (y : Yes). Decides y.0 (Productive g A)) (front_mark vs _ A g.n n.0 n.1 many)
-    (tells g (sym c.requires.rules_are) (sym many) (well_formed (raw d.frames) c.requires.formed) A n)
+    (tells g (sym d.rules_are) (sym many) (well_formed (raw d.frames) d.formed) A n)

@@ -9,4 +9,4 @@ use Rattle.table.proofs.sound.reachable_marks.Goals as goal
 pub returns : goal.returns
 returns c =
     subst (λ (ρs : List Rule). Reaches ρs c.reachable.result) c.rules.ensures c.reachable.ensures (grammar_of (raw c.args.draft.now.frames))
-    (draft_rules c.args.draft.now c.requires)
+    (draft_rules c.args.draft.now)

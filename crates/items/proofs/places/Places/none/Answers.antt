@@ -1,6 +1,5 @@
-use Rattle.std.proofs.Common.{◌+◌, ◌*◌, Bool, ◌&&◌, ltb, ap, ◌∙◌}
-use Rattle.items.proofs.Grids.{and_nothing, all_unmarked}
+use Rattle.items.proofs.Grids.{unmarked, unmarked_has, same_as_none}
 use Rattle.items.proofs.places.Places.none.Goals as goal
 
 pub returns : goal.returns
-returns c = λ i. ap (λ (b : Bool). ltb i.dot 7 && b) (all_unmarked 427 (7 * i.rule + i.dot)) ∙ and_nothing (ltb i.dot 7)
+returns c = record { nothing = unmarked_has; alone = same_as_none unmarked unmarked_has }

@@ -1,12 +1,8 @@
-use Rattle.std.proofs.Common.{get_or, take, refl, ap, arith}
-use Rattle.std.proofs.Output.{has_written_of_eq, has_written_append, writes_in_calls_nil}
-use Rattle.std.proofs.lemmas.List.{take_all}
+use Rattle.std.proofs.Common.{get_or, take, refl, arith}
+use Rattle.std.proofs.Output.{has_written_of_eq, has_written_append}
 use Rattle.listing.specs.Escapes.{escaped, escaped_text}
 use Rattle.listing.proofs.Escapes.{escaped_more}
 use Rattle.listing.proofs.escape.EscapedDisplay.fmt.Goals as goal
-
-pub loop-byte-init : goal.loop-byte-init
-loop-byte-init g c = λ plain. record { wrote = writes_in_calls_nil g.W.Write.write_str_gives _; plain = plain }
 
 pub loop-byte-preserved : goal.loop-byte-preserved
 loop-byte-preserved g c = λ plain.
@@ -18,7 +14,3 @@ loop-byte-preserved g c = λ plain.
     let more = c.in_ok-write_byte.ensures before.plain refl in
     has_written_of_eq took start _ _ c.write_byte.new.f (escaped_more bytes i (omega arith))
     (has_written_append took start (escaped_text (take i bytes)) c.loop-byte.f (escaped (get_or bytes i 0)) c.write_byte.new.f before more)
-
-pub returns-clause-writes : goal.returns-clause-writes
-returns-clause-writes g c = λ plain ok.
-    has_written_of_eq g.W.Write.write_str_gives c.args.f.now _ _ c.loop-byte.f (ap escaped_text (take_all c.loop-byte.byte-index c.args.self.now.bytes.now (omega arith))) (c.loop-byte.invariant plain)

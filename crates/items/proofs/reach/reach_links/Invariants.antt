@@ -1,8 +1,0 @@
-use Rattle.std.proofs.Common.{◌≡◌, ℕ, ◌<◌, length, get_or}
-use Rattle.items.specs.Closures.{no_link}
-use Rattle.items.specs.Reaching.{reach_at}
-use Rattle.items.proofs.reach.reach_links.Given as goal
-
--- the links so far are there
-abbrev pub invariant-loop-j : goal.invariant-loop-j
-invariant-loop-j l = (length l.found ≡ 361) × ((k : ℕ) → k < l.j → get_or l.found k no_link ≡ reach_at l.rules k)

@@ -1,0 +1,94 @@
+//! The closure of a set of places, and the kernels of its successors.
+ghost use Rattle.std.specs.Prelude.{◌≡◌, ℕ, ◌/◌, ◌%◌, ◌<◌, false, ◌&&◌, length, slice_index_or, ◌==◌};
+ghost use Rattle.items.specs.Actives.{Active, NextOf};
+ghost use Rattle.items.specs.Nexts.{marked, brought_in, in_closure, next_has};
+
+use crate::closing::active;
+use crate::place::Place;
+use crate::places::Places;
+use crate::right_sides::symbol_behind;
+use solver::{Rule, Yes};
+use symbols::nonterminal_index;
+
+/// The closure of a set of places: the set, and the rules of the nonterminals that stand before a dot of the closure.
+#[derive(Clone, Copy)]
+pub struct Closure<'a> {
+    rules: &'a [Rule<'a>],
+    places: &'a Places,
+    // The mark of each nonterminal that stands before a dot.
+    marks: [Yes; 24],
+    ghost active: { ∥ Active rules.now places.now marks ∥₁ },
+}
+
+impl<'a> Closure<'a> {
+    /// The closure of a set.
+    pub fn new(rules: &'a [Rule<'a>], places: &'a Places) -> Closure<'a>
+        ensures rules { result.rules.now ≡ rules.now }
+        ensures places { result.places.now ≡ places.now }
+    {
+        Closure {
+            rules,
+            places,
+            marks: active(rules, places),
+        }
+    }
+
+    // Whether a symbol is a marked nonterminal.
+    fn is_marked(&self, symbol: u8) -> bool
+        ensures { result ≡ marked self.now.marks symbol }
+    {
+        match nonterminal_index(symbol) {
+            Some(at) => self.marks.get(at).copied().unwrap_or(Yes(false)).0,
+            None => false,
+        }
+    }
+
+    // Whether a rule is one of a marked nonterminal, and the dot its end.
+    fn ends_marked(&self, rule: &Rule<'_>, dot: u8) -> bool
+        ensures { result ≡ (length rule.now.right.now == dot && marked self.now.marks rule.now.left) }
+    {
+        rule.right.len() == dot as usize && self.is_marked(rule.left)
+    }
+
+    // Whether a rule comes in with the dot at its end.
+    fn brings_in(&self, place: Place) -> bool
+        ensures { result ≡ brought_in self.now.rules.now self.now.marks place.rule place.dot }
+    {
+        match self.rules.get(place.rule as usize) {
+            Some(rule) => self.ends_marked(rule, place.dot),
+            None => false,
+        }
+    }
+
+    fn has(&self, place: Place) -> bool
+        ensures { result ≡ in_closure self.now.rules.now self.now.places.now self.now.marks place.rule place.dot }
+    {
+        self.places.contains(place) || self.brings_in(place)
+    }
+
+    // Whether the closure has the place with the dot one higher, and the symbol stands before that dot.
+    fn leads_to(&self, symbol: u8, place: Place) -> bool
+        requires { place.dot < 255 }
+        ensures { result ≡ next_has self.now.rules.now self.now.places.now self.now.marks symbol place.rule place.dot }
+    {
+        let raised = Place {
+            dot: place.dot + 1,
+            ..place
+        };
+        symbol_behind(self.rules, place) == Some(symbol) && self.has(raised)
+    }
+
+    // The places of a successor, each at its number.
+    fn successor_marks(&self, symbol: u8) -> [bool; 427]
+        ensures { (j : ℕ) → j < 427 → slice_index_or result j false ≡ next_has self.now.rules.now self.now.places.now self.now.marks symbol (j / 7) (j % 7) }
+    {
+        std::array::from_fn(|j| self.leads_to(symbol, Place::numbered(j)))
+    }
+
+    /// The kernel of the successor by a symbol.
+    pub fn successor(&self, symbol: u8) -> Places
+        ensures { NextOf self.now.rules.now self.now.places.now symbol result }
+    {
+        Places::of_marks(self.successor_marks(symbol))
+    }
+}
