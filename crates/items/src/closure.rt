@@ -37,6 +37,7 @@ impl<'a> Closure<'a> {
     fn is_marked(&self, symbol: u8) -> bool
         ensures { result ≡ marked self.now.marks symbol }
     {
+        // a `match` here and below: the proofs of `is_some_and` did not close
         match nonterminal_index(symbol) {
             Some(at) => self.marks.get(at).copied().unwrap_or(Yes(false)).0,
             None => false,

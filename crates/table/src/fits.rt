@@ -36,10 +36,8 @@ fn behind_left(frames: Frames<'_>, q: u8, r: u8) -> Option<u8>
 fn state_behind(frames: Frames<'_>, q: u8, r: u8) -> Option<u8>
     ensures { result ≡ fitting_state (raw frames.entry) q r }
 {
-    match behind_left(frames, q, r) {
-        None => None,
-        Some(_) => after(frames, q, frames.right(r)),
-    }
+    behind_left(frames, q, r)?;
+    after(frames, q, frames.right(r))
 }
 
 // The words that a rule fits at a state.
