@@ -11,7 +11,7 @@ use Rattle.grammar.specs.Item.{Item, Closure}
 use Rattle.grammar.specs.Table.{Table, Kernel, Word, EqualStates, After, Fits, TwoFit, IsCollection, Accepted}
 use Rattle.grammar.specs.Viable.{Viable, InV, Equivalent, ValidKernel, Nonempty, Suffix}
 use Rattle.grammar.specs.Parser.{Shifts, Produces, Deterministic}
-use Rattle.grammar.specs.Canonical.{StateMap, Canonical, NumberedInOrder}
+use Rattle.grammar.specs.Canonical.{StateMap, Collection, Canonical, NumberedInOrder}
 use Rattle.grammar.proofs.Items.{valid→spot, spot→valid}
 use Rattle.grammar.proofs.Suffixes.{cons_nonempty, turned, closure_over, shrink, replaced, mark_suffix, equivalent_words, equivalent_spots}
 use Rattle.grammar.proofs.Actions.{class_word}
@@ -120,9 +120,8 @@ module _ (g : Grammar) (s : Sound g) where
     pub collection→map : IsCollection g T → StateMap g T
     collection→map c = states→map g s T c.some_state c.defined (in_order c)
 
-    canonical : Accepted g T → Canonical g T
-    canonical a =
-        let c = a.collection in
+    collected : IsCollection g T → Collection g T
+    collected c =
         let m : StateMap g T = collection→map c in
         record {
           map = m;
@@ -135,26 +134,41 @@ module _ (g : Grammar) (s : Sound g) where
                 (λ l. c.distinct (m.state σ) (m.within σ f) (m.state τ, (l, (λ i. Iff.symm (k i), λ y. Iff.symm (w y))))),
           );
           items = items T m;
+        }
+
+    uncollected : Collection g T → NumberedInOrder T → IsCollection g T
+    uncollected c order =
+        let m : StateMap g T = c.map in
+        record {
+          some_state = subst (λ (z : ℕ). z < T.size) m.first (m.within (end_mark ∷ []) (mark_suffix g s));
+          defined = map→states g s T m;
+          distinct = λ q h (p, (l, same)).
+              let (σ, (f, e)) = m.onto p (omega (arith, l, h)) in
+              let (τ, (f', e')) = m.onto q h in
+              let alike : Equivalent g σ τ = equal→equivalent T m σ τ f f' (subst₂ (λ (x y : ℕ). EqualStates T x y) (sym e) (sym e') same) in
+              let equal : p ≡ q = sym e ∙ (c.classes σ τ f f').1 alike ∙ e' in
+              omega (arith, l, equal);
+          found = λ q h (p, n). n (order q p h);
+        }
+
+    pub collections_are_canonical : IsCollection g T ↔ (Collection g T × NumberedInOrder T)
+    collections_are_canonical = (λ c. (collected c, in_order c), λ (c, order). uncollected c order)
+
+    canonical : Accepted g T → Canonical g T
+    canonical a =
+        let c = collected a.collection in
+        let m : StateMap g T = c.map in
+        record {
+          collection = c;
           shifts = word_shifts T m;
           produces = λ σ f A y r. Iff.trans (a.choices (m.state σ) (m.within σ f) A y r) (fits_produces T m σ f A y r);
         }
 
     accepted : Canonical g T → Deterministic g → NumberedInOrder T → Accepted g T
     accepted c det order =
-        let m : StateMap g T = c.map in
+        let m : StateMap g T = c.collection.map in
         record {
-          collection =
-              record {
-                some_state = subst (λ (z : ℕ). z < T.size) m.first (m.within (end_mark ∷ []) (mark_suffix g s));
-                defined = map→states g s T m;
-                distinct = λ q h (p, (l, same)).
-                    let (σ, (f, e)) = m.onto p (omega (arith, l, h)) in
-                    let (τ, (f', e')) = m.onto q h in
-                    let alike : Equivalent g σ τ = equal→equivalent T m σ τ f f' (subst₂ (λ (x y : ℕ). EqualStates T x y) (sym e) (sym e') same) in
-                    let equal : p ≡ q = sym e ∙ (c.classes σ τ f f').1 alike ∙ e' in
-                    omega (arith, l, equal);
-                found = λ q h (p, n). n (order q p h);
-              };
+          collection = uncollected c.collection order;
           one_fits = (one_fits T m).1 det;
           choices = λ q h A y r.
               let (σ, (f, e)) = m.onto q h in

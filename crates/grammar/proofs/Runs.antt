@@ -122,3 +122,9 @@ module _ (g : Grammar) where
     λ s. let (rs, d) = derived→run s in (rs, (run_tokens d, whole d)),
     λ (rs, (t, d)). (t, (rs, leftmost→derives (IsToken g) rs (start_symbol ∷ []) v d)),
   )
+
+  pub derivations_parse : (α u : List ℕ) → DerivesTokens g α u ↔ ((rs : List ℕ) × (Every (IsToken g) u × Leftmost g (IsToken g) α rs u))
+  derivations_parse α u = (
+    λ s. let (rs, d) = derived→run s in (rs, (run_tokens d, whole d)),
+    λ (rs, (t, d)). (t, (rs, leftmost→derives (IsToken g) rs α u d)),
+  )

@@ -18,16 +18,20 @@ pub record StateMap (g : Grammar) (T : Table) : Type 0 where
   pub words : (σ : List ℕ) → Suffix g σ → (y : List ℕ) → Word T (state σ) y ↔ SuffixWord g σ y
   pub successors : (σ : List ℕ) → Suffix g σ → (X q : ℕ) → (T.next (state σ) X ≡ some q) ↔ (Viable g (X ∷ σ) × (q ≡ state (X ∷ σ)))
 
--- The table is the canonical LL(k) collection with its parser: states stand for the classes of equivalent suffixes, a state's closure with
--- its words is V of these suffixes, and its words and choices are the actions of the parser.
-pub record Canonical (g : Grammar) (T : Table) : Type 0 where
+-- The table's states are the canonical LL(k) collection: they stand for the classes of equivalent suffixes, and a state's closure with its
+-- words is V of these suffixes.
+pub record Collection (g : Grammar) (T : Table) : Type 0 where
   pub map : StateMap g T
   pub classes : (σ τ : List ℕ) → Suffix g σ → Suffix g τ → (map.state σ ≡ map.state τ) ↔ Equivalent g σ τ
   pub items : (σ : List ℕ) → Suffix g σ → (i : Item) (y : List ℕ)
       → (Closure g (Kernel T (map.state σ)) i × Word T (map.state σ) y) ↔ InV g σ i y
+
+-- The table is that collection with its parser: its words and choices are the actions of the parser.
+pub record Canonical (g : Grammar) (T : Table) : Type 0 where
+  pub collection : Collection g T
   pub shifts : (a : ℕ) (σ : List ℕ) → Suffix g (a ∷ σ) → (y : List ℕ)
-      → (IsToken g a × Word T (map.state (a ∷ σ)) (a ∷ y)) ↔ Shifts g σ a y
-  pub produces : (σ : List ℕ) → Suffix g σ → (A : ℕ) (y : List ℕ) (r : ℕ) → (T.choice (map.state σ) A y ≡ some r) ↔ Produces g σ A y r
+      → (IsToken g a × Word T (collection.map.state (a ∷ σ)) (a ∷ y)) ↔ Shifts g σ a y
+  pub produces : (σ : List ℕ) → Suffix g σ → (A : ℕ) (y : List ℕ) (r : ℕ) → (T.choice (collection.map.state σ) A y ≡ some r) ↔ Produces g σ A y r
 
 -- The states are numbered so that each after 0 is a successor of a lower one.
 abbrev pub NumberedInOrder : Table → Type 0

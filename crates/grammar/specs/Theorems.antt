@@ -1,21 +1,27 @@
 -- The theorems. Each is asked for by a contract of src/lib.rt.
 use Rattle.std.specs.Prelude.{◌≡◌, ℕ, ◌<◌, ◌↔◌, List, [], ◌∷◌, ◌++◌, take}
 use mathlib.Core.List.{Memᴰ}
-use Rattle.grammar.specs.Grammar.{Rule, Grammar, IsNonterminal, IsTerminal, IsRule, Every, WellFormed, end_mark}
-use Rattle.grammar.specs.Derivation.{Sentence, LeftParse}
+use Rattle.grammar.specs.Grammar.{Rule, Grammar, IsToken, IsNonterminal, IsTerminal, IsRule, Every, WellFormed, end_mark}
+use Rattle.grammar.specs.Derivation.{Leftmost, DerivesTokens, Sentence, LeftParse}
 use Rattle.grammar.specs.First.{First, FirstWith}
 use Rattle.grammar.specs.Sound.{Productive, Reachable, Occurs, Sound}
 use Rattle.grammar.specs.Item.{Item, Closure, NextKernel}
 use Rattle.grammar.specs.Table.{Table, TwoFit, IsCollection, Accepted}
 use Rattle.grammar.specs.Viable.{LeftForm, Valid, Viable, SuffixWord, InV, Equivalent, ValidKernel, VKernel, Nonempty, Suffix}
 use Rattle.grammar.specs.Parser.{Shifts, Produces, Deterministic}
-use Rattle.grammar.specs.Canonical.{Canonical, NumberedInOrder}
+use Rattle.grammar.specs.Canonical.{Collection, Canonical, NumberedInOrder}
 use Rattle.grammar.specs.LL.{IsLL}
 use Rattle.grammar.specs.Equations.{Kind, Holds, CutTo, Least}
 
 -- Derivations at any places and leftmost ones give the same sentences.
 abbrev pub SentencesParse : Type 0
 SentencesParse = (g : Grammar) (v : List ℕ) → Sentence g v ↔ ((rs : List ℕ) × LeftParse g v rs)
+
+-- So it is for the token strings derived from any string of symbols.
+abbrev pub DerivationsParse : Type 0
+DerivationsParse =
+    (g : Grammar) (α u : List ℕ)
+    → DerivesTokens g α u ↔ ((rs : List ℕ) × (Every (IsToken g) u × Leftmost g (IsToken g) α rs u))
 
 -- FIRST(α β) is the product of FIRST(α) and FIRST(β), cut.
 abbrev pub FirstOfProducts : Type 0
@@ -114,6 +120,13 @@ abbrev pub WordsFollow : Type 0
 WordsFollow =
     (g : Grammar) → Sound g → (X : ℕ) (σ : List ℕ) → Viable g (X ∷ σ)
     → (y : List ℕ) → SuffixWord g (X ∷ σ) y ↔ FirstWith g (X ∷ []) (SuffixWord g σ) y
+
+-- The tables whose states are as defined, different and found are the canonical collections, in an order in which they can be found; of any
+-- sound grammar, LL(k) or not.
+abbrev pub CollectionsAreCanonical : Type 0
+CollectionsAreCanonical =
+    (g : Grammar) (T : Table) → Sound g
+    → IsCollection g T ↔ (Collection g T × NumberedInOrder T)
 
 -- The tables with nothing wrong are the canonical collections whose parser is deterministic, in an order in which they can be found.
 abbrev pub AcceptedAreCanonical : Type 0

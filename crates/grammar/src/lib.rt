@@ -2,16 +2,16 @@
 //! theorems on one page, Theorems.antt. The contract of a function here asks for the proof of those that it names; the functions do nothing else.
 #![tactic(auto)]
 
-ghost use Rattle.grammar.specs.Theorems.{SentencesParse, FirstOfProducts, FirstInTurn, FirstWithWords};
+ghost use Rattle.grammar.specs.Theorems.{SentencesParse, DerivationsParse, FirstOfProducts, FirstInTurn, FirstWithWords};
 ghost use Rattle.grammar.specs.Theorems.{LeastIsProductive, LeastIsFirst, ReachableIsFound};
 ghost use Rattle.grammar.specs.Theorems.{SuffixesEnd, SuffixesShrink, SuffixesReplace, TopsAreLeftmost, EquivalentsAgree, EquivalentsFollow};
 ghost use Rattle.grammar.specs.Theorems.{ValidItemsClose, VCloses, KernelsFollow, WordsFollow, ActionsExclude, WordsAreWhole};
-ghost use Rattle.grammar.specs.Theorems.{AcceptedAreCanonical, LLIsDeterministic, LLWithoutConflict, ConflictsDecide, AcceptedAreLL};
+ghost use Rattle.grammar.specs.Theorems.{CollectionsAreCanonical, AcceptedAreCanonical, LLIsDeterministic, LLWithoutConflict, ConflictsDecide, AcceptedAreLL};
 ghost use Rattle.grammar.specs.Sample.{SampleIsAccepted, SamplesNotLL, YesNoIsAKind};
 
 /// Derivations at any places and leftmost ones give the same sentences.
 pub fn derivations_stand()
-    ensures { SentencesParse }
+    ensures { SentencesParse × DerivationsParse }
 {}
 
 /// FIRST of a joined string is the product of FIRST of its parts, cut; the words behind a string come in as one more part.
@@ -42,7 +42,7 @@ pub fn actions_stand()
 
 /// The tables with nothing wrong are the canonical collections with their deterministic parsers.
 pub fn tables_stand()
-    ensures { AcceptedAreCanonical }
+    ensures { CollectionsAreCanonical × AcceptedAreCanonical }
 {}
 
 /// A grammar is LL(k) just when its parser is deterministic, and just when its table has no conflict.

@@ -15,7 +15,7 @@ pub trait Value: Copy + PartialEq {
 
     ghost laws: { Laws kind height CHAIN };
 
-    /// The longest rising chain of values.
+    /// No chain of rising values is longer.
     const CHAIN: usize;
 
     /// The value of no string at all.
