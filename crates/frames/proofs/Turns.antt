@@ -10,7 +10,7 @@ use Rattle.frames.specs.Form.{below, entry_good, width, entries_rise}
 abbrev pub follows : Raw → Section → List ℕ → List ℕ → Bool
 follows R c last e = below last e && entry_good R c e
 
-opened : (R : Raw) (c : Section) (last e rest : List ℕ) → length e ≡ width c → entries_rise R c last (e ++ rest) ≡ (follows R c last e && entries_rise R c e rest)
+pub opened : (R : Raw) (c : Section) (last e rest : List ℕ) → length e ≡ width c → entries_rise R c last (e ++ rest) ≡ (follows R c last e && entries_rise R c e rest)
 opened R Kernel last (a ∷ b ∷ []) rest h = refl
 opened R Kernel last [] rest h = absurd (omega arith)
 opened R Kernel last (a ∷ []) rest h = absurd (omega arith)

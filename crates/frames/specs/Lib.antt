@@ -1,4 +1,5 @@
 pub mod Lowest
 pub mod Raw
 pub mod Form
+pub mod Formed
 pub mod Views

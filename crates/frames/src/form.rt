@@ -2,6 +2,7 @@
 ghost use Rattle.std.specs.Prelude.{◌≡◌, ◌<◌, ◌&&◌, []};
 ghost use Rattle.frames.specs.Raw.{header_of};
 ghost use Rattle.frames.specs.Form.{is_token, is_nonterminal, is_symbol, are_symbols, is_word, word_of, between, header_good, rule_good, is_kernel_place, choice_good, entry_good, below, entries_rise, entries_good, section_good, needed, good_at, frame_good, numbers_good, start_good, BadStart, BadFrame};
+ghost use Rattle.frames.specs.Formed.{FormLaw, FirstLaw, FrameLaw};
 ghost use Rattle.frames.specs.Lowest.{Lowest};
 ghost use Rattle.frames.specs.Views.{raw};
 
@@ -253,3 +254,8 @@ impl<'a> Frames<'a> {
         Form::new(self).bad_frame().map(usize::from)
     }
 }
+
+/// What it is for the frames of a file to have their form, in words. It does nothing; its contract is the law.
+pub fn form_stands()
+    ensures { FormLaw × FirstLaw × FrameLaw }
+{}

@@ -18,4 +18,4 @@ refusal_of NoRoom = refused 3 0
 abbrev pub reason_of : LoadRefusal → List ℕ
 reason_of TextTooLong = codes "the text has over 1048576 bytes"
 reason_of (NotAFrame n) = codes "the line is no frame"
-reason_of NoRoom = codes "there are more frames than a table has"
+reason_of NoRoom = codes "the store or the list of starts is too short"

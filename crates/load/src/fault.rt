@@ -26,7 +26,7 @@ impl Numbered for LoadRefusal {
     }
 }
 
-// The reason in words; that there is no room is told for memory with room for every table.
+// The reason in words.
 impl fmt::Display for LoadRefusal {
     ghost output = { λ e. Some (reason_of e) };
 
@@ -34,7 +34,7 @@ impl fmt::Display for LoadRefusal {
         f.write_str(match self {
             LoadRefusal::TextTooLong => "the text has over 1048576 bytes",
             LoadRefusal::NotAFrame(_) => "the line is no frame",
-            LoadRefusal::NoRoom => "there are more frames than a table has",
+            LoadRefusal::NoRoom => "the store or the list of starts is too short",
         })
     }
 }
