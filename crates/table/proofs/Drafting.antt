@@ -12,7 +12,8 @@ use Rattle.frames.specs.Raw.{Raw, header_of}
 use Rattle.frames.specs.Views.{raw}
 use Rattle.table.specs.declared.draft.Draft.{Draft}
 use Rattle.table.specs.Contents.{rule_in, rules_in, grammar_of}
-use Rattle.table.proofs.Formed.{Ranges, ranges, well_formed, rule_found, right_short}
+use Rattle.table.proofs.Numbering.{rule_found}
+use Rattle.table.proofs.Formed.{Ranges, ranges, well_formed, right_short}
 
 pub rules_are : (R : Raw) (r n : ℕ) (ρs : List Rule) → n ≤ length ρs → ((k : ℕ) → k < n → rule_at (rules_of ρs) k ≡ some (rule_in R (r + k)))
     → rules_of (take n ρs) ≡ rules_in R r n
@@ -45,6 +46,6 @@ module _ (d : Draft) where
     few_nonterminals = numbers.n_high;
     few_rules = let l = length-take-le d.header.p d.rules (omega (arith, d.many, p_is, numbers.p_high)) in omega (arith, l, p_is, numbers.p_high);
     short_sides = λ r ρ i.
-        let (l, e) = rule_found (raw d.frames) d.formed r ρ i in
+        let (l, e) = rule_found (raw d.frames) r ρ i in
         subst (λ (τ : grammar.Rule). length τ.right ≤ 6) (sym e) (right_short (raw d.frames) d.formed r l);
   }

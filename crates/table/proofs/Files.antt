@@ -1,20 +1,21 @@
 -- The files with nothing wrong are those of canonical collections. The rows of the frames make the grammar well formed, those of the grammar
 -- make it sound, and those of the states ask state by state what makes a table accepted.
 use Rattle.std.proofs.Common.{◌≡◌, ℕ, true, List, [], ◌∷◌, ◌++◌, sym, refl, ◌∙◌}
+use mathlib.Core.Logic.{∥∥₁_map}
 use mathlib.Core.List.Memᴰ
 use mathlib.Core.List.{Memᴰ}
 use Rattle.std.proofs.lemmas.Bool.{true≢false}
 use Rattle.grammar.specs.Sound.{Sound}
 use Rattle.grammar.specs.Table.{IsCollection, Accepted}
-use Rattle.grammar.specs.Parser.{Deterministic}
-use Rattle.grammar.specs.Canonical.{Canonical, NumberedInOrder}
 use Rattle.grammar.proofs.Canonical.{accepted_are_canonical}
 use Rattle.grammar.proofs.LL.{ll_without_conflict, conflicts_decide}
 use Rattle.frames.specs.Raw.{Raw}
 use Rattle.frames.specs.Form.{frame_good}
 use Rattle.table.specs.Contents.{grammar_of, table_of}
 use Rattle.table.specs.Rows.{Row, numbers, starts, frames, productive, reachable, defined, distinct, found, one_fits, chosen, form_rows, grammar_rows, Good, AcceptedFile}
-use Rattle.table.specs.Theorems.{HoldsTable, AcceptedIsCanonical, ConflictIsNotLL}
+use Rattle.table.specs.Theorems.{HoldsTable, HoldsCanonical, AcceptedIsCanonical, ConflictIsNotLL}
+use Rattle.table.specs.Checked.{contents}
+use Rattle.table.specs.declared.passed.CheckedTable.{CheckedTable}
 use Rattle.table.specs.Drafts.{Formed}
 use Rattle.table.proofs.Formed.{ranges, well_formed}
 
@@ -29,8 +30,15 @@ module _ (R : Raw) where
       → IsCollection (grammar_of R) (table_of R)
   collection_of f d e n = record { some_state = (ranges R (formed_of f)).s_low; defined = λ q l. (d q l).1; distinct = e; found = n }
 
-  accepted_of : AcceptedFile R → Accepted (grammar_of R) (table_of R)
-  accepted_of g = record {
+  -- what is checked of a file, for a reader of its table
+  pub formed_file : AcceptedFile R → Formed R
+  formed_file g = formed_of (g frames)
+
+  pub sound_grammar : AcceptedFile R → Sound (grammar_of R)
+  sound_grammar g = sound_of (g frames) (g productive) (g reachable)
+
+  pub accepted_table : AcceptedFile R → Accepted (grammar_of R) (table_of R)
+  accepted_table g = record {
     collection = collection_of (g frames) (g defined) (g distinct) (g found);
     one_fits = g one_fits;
     choices = λ q l. (g chosen q l).1;
@@ -51,13 +59,16 @@ module _ (R : Raw) where
 pub accepted_is_canonical : AcceptedIsCanonical
 accepted_is_canonical R = (there, λ (h, (s, (c, (d, n)))). file_of R h s ((accepted_are_canonical (grammar_of R) s (table_of R)).1 (c, d, n)))
   where
-    there : AcceptedFile R
-        → HoldsTable R × (Sound (grammar_of R) × (Canonical (grammar_of R) (table_of R) × (Deterministic (grammar_of R) × NumberedInOrder (table_of R))))
+    there : AcceptedFile R → HoldsCanonical R
     there g =
-        let s : Sound (grammar_of R) = sound_of R (g frames) (g productive) (g reachable) in
+        let s : Sound (grammar_of R) = sound_grammar R g in
         let h : HoldsTable R = record { formed = λ c m. g c; once = λ q l. ((g defined q l).0, (g chosen q l).0) } in
-        let (c, d, n) = (accepted_are_canonical (grammar_of R) s (table_of R)).0 (accepted_of R g) in
+        let (c, d, n) = (accepted_are_canonical (grammar_of R) s (table_of R)).0 (accepted_table R g) in
         (h, (s, (c, (d, n))))
+
+-- so a checked table holds one
+pub holds_canonical : (t : CheckedTable) → ∥ HoldsCanonical (contents t) ∥₁
+holds_canonical t = ∥∥₁_map t.good (accepted_is_canonical (contents t)).0
 
 -- the rows of the states before the one of conflicts
 abbrev collection_rows : List Row

@@ -4,7 +4,7 @@ use Rattle.std.proofs.Common.{◌≡◌, ℕ, ◌+◌, ◌<◌, ◌≤◌, true,
 use mathlib.Core.List.Memᴰ
 use mathlib.Core.Option as math
 use Rattle.std.proofs.lemmas.List.{get_or-set_same, get_or-set_other}
-use Rattle.std.proofs.lemmas.Bool.{cases_eq, cases_lt, cond-false, ne_eqb}
+use Rattle.std.proofs.lemmas.Bool.{cases_eq, cases_lt}
 use Rattle.grammar.specs.Grammar.{Rule}
 use Rattle.grammar.specs.Table.{Table, After, Fits, TwoFit}
 use Rattle.words.specs.Codes.{cut}
@@ -22,7 +22,8 @@ use Rattle.table.specs.Contents.{rule_in, grammar_of, table_of}
 use Rattle.table.specs.Drafts.{Formed}
 use Rattle.table.specs.States.{answered, onwards, after_in}
 use Rattle.table.specs.Fitted.{if_successor, fitting_state, words_at, fitting_words, set_of, FitWords, Share, MeetsLower}
-use Rattle.table.proofs.Formed.{ranges, left_good, rule_there, rule_found}
+use Rattle.table.proofs.Numbering.{rule_there, rule_found, right_is}
+use Rattle.table.proofs.Formed.{ranges, left_good}
 use Rattle.table.proofs.Sections.{state_words, found_successor}
 use Rattle.table.proofs.Defining.{answered_some}
 
@@ -70,9 +71,6 @@ fitting_within R formed q l r p e =
     let (_, at) = if_some ((table_of R).next q (left_of R r)) (after_in (table_of R) q (right_of R r)) p e in
     after_within R formed q l (right_of R r) p (after_found (table_of R) q (right_of R r) p at)
 
-right_is : (R : Raw) (r : ℕ) → r < (header_of R).p → right_of R r ≡ drop 2 (frame R (1 + r))
-right_is R r l = cond-false _ _ _ (ne_eqb r _ (λ e. absurd (omega (arith, e, l))))
-
 -- What is known of a rule that fits: it is a rule of the nonterminal, and the word is one of its state.
 pub record Placed (R : Raw) (q A : ℕ) (y : List ℕ) (r : ℕ) : Type 0 where
   pub within : r < (header_of R).p
@@ -90,7 +88,7 @@ module _ (R : Raw) (formed : Formed R) (q : ℕ) where
         nonterminal = left_good R formed r l;
         has_next = has;
         rule = rule_in R r;
-        is_rule = rule_there R formed r l;
+        is_rule = rule_there R r l;
         left_is = refl;
         state = p;
         after_is = after_found (table_of R) q (drop 2 (frame R (1 + r))) p (ap (after_in (table_of R) q) (sym (right_is R r l)) ∙ at);
@@ -99,7 +97,7 @@ module _ (R : Raw) (formed : Formed R) (q : ℕ) where
 
   pub placed : (A : ℕ) (y : List ℕ) (r : ℕ) → Fits (grammar_of R) (table_of R) q A y r → Placed R q A y r
   placed A y r f =
-      let (l, e) = rule_found R formed r f.rule f.is_rule in
+      let (l, e) = rule_found R r f.rule f.is_rule in
       let left : left_of R r ≡ A = sym (ap (λ (ρ : Rule). ρ.left) e) ∙ f.left_is in
       let right : right_of R r ≡ f.rule.right = right_is R r l ∙ sym (ap (λ (ρ : Rule). ρ.right) e) in
       record {

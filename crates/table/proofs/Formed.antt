@@ -1,16 +1,16 @@
 -- What the frames of a table of the right form hold: the header's numbers are in their ranges, rules are made of symbols, and every section has
 -- entries of its kind.
-use Rattle.std.proofs.Common.{◌≡◌, ℕ, zero, suc, ◌+◌, ◌-◌, ◌*◌, ◌%◌, ◌<◌, ◌≤◌, true, false, cond, eqb, ltb, leb, ◌⊎◌, List, [], ◌∷◌, length, get_or, drop, sym, ap, ◌∙◌, subst, inl, inr, arith, length-drop}
-use mathlib.Core.Option.{some}
+use Rattle.std.proofs.Common.{◌≡◌, ℕ, ◌+◌, ◌-◌, ◌*◌, ◌%◌, ◌<◌, ◌≤◌, true, false, cond, eqb, ltb, leb, ◌⊎◌, List, [], ◌∷◌, length, get_or, drop, sym, ap, ◌∙◌, subst, inl, inr, arith, length-drop}
 use Rattle.std.proofs.lemmas.Bool.{cases_Bool, cond-true, cond-false, lt-ltb, lt-leb, le-leb, leb-true, ne_eqb, and_parts, or_cases}
-use Rattle.grammar.specs.Grammar.{Rule, rule_at, IsNonterminal, IsSymbol, IsRule, Every, WellFormed}
+use Rattle.grammar.specs.Grammar.{Rule, IsNonterminal, IsSymbol, Every, WellFormed}
 use Rattle.frames.specs.declared.header.Header.{Header}
 use Rattle.frames.specs.declared.header.Section.{Section}
 use Rattle.frames.specs.declared.header.Section.TheVariants.{Kernel, Words, Successors, Choices}
 use Rattle.frames.specs.Raw.{Raw, frame, header_of, left_of, place, section_of}
 use Rattle.frames.specs.Form.{between, is_token, is_nonterminal, is_symbol, are_symbols, header_good, rule_good, entries_good, section_good, section_at, needed, good_at, frame_good}
-use Rattle.table.specs.Contents.{rule_in, rules_in, grammar_of}
+use Rattle.table.specs.Contents.{grammar_of}
 use Rattle.table.specs.Drafts.{Formed}
+use Rattle.table.proofs.Numbering.{rule_found}
 
 pub record Ranges (h : Header) : Type 0 where
   pub k_low : 1 ≤ h.k
@@ -125,34 +125,6 @@ module _ (R : Raw) (formed : Formed R) where
       let (_, e₁) = and_parts (between 1 4096 (length (frame R i))) _ e' in
       (and_parts (eqb (get_or (frame R i) 0 0) _) (entries_good R c (section_of R q c)) e₁).1
 
-  -- the rules of the grammar, by numbers
-  rules_there : (r m j : ℕ) → j < m → rule_at (rules_in R r m) j ≡ some (rule_in R (r + j))
-  rules_there r zero j l = absurd (omega arith)
-  rules_there r (suc m) zero l = let z : r ≡ r + 0 = omega arith in ap (λ (x : ℕ). some (rule_in R x)) z
-  rules_there r (suc m) (suc j) l =
-      let z : suc r + j ≡ r + suc j = omega arith in
-      rules_there (suc r) m j (omega arith) ∙ ap (λ (x : ℕ). some (rule_in R x)) z
-
-  rules_found : (r m j : ℕ) (ρ : Rule) → rule_at (rules_in R r m) j ≡ some ρ → (j < m) × (ρ ≡ rule_in R (r + j))
-  rules_found r zero j ρ e = absurd cc
-  rules_found r (suc m) zero ρ e =
-      let z : r ≡ r + 0 = omega arith in
-      let s : ρ ≡ rule_in R r = cc in
-      (omega arith, s ∙ ap (rule_in R) z)
-  rules_found r (suc m) (suc j) ρ e =
-      let (l, s) = rules_found (suc r) m j ρ e in
-      let z : suc r + j ≡ r + suc j = omega arith in
-      (omega arith, s ∙ ap (rule_in R) z)
-
-  pub rule_there : (r : ℕ) → r < (header_of R).p → IsRule (grammar_of R) r (rule_in R r)
-  rule_there r l = let z : 0 + r ≡ r = omega arith in rules_there 0 (header_of R).p r l ∙ ap (λ (x : ℕ). some (rule_in R x)) z
-
-  pub rule_found : (r : ℕ) (ρ : Rule) → IsRule (grammar_of R) r ρ → (r < (header_of R).p) × (ρ ≡ rule_in R r)
-  rule_found r ρ e =
-      let (l, s) = rules_found 0 (header_of R).p r ρ e in
-      let z : 0 + r ≡ r = omega arith in
-      (l, s ∙ ap (rule_in R) z)
-
   pub well_formed : WellFormed (grammar_of R)
   well_formed =
       let x = ranges in
@@ -160,6 +132,6 @@ module _ (R : Raw) (formed : Formed R) where
         some_lookahead = x.k_low;
         tokens_below = omega (arith, x.t_high);
         some_nonterminal = x.n_low;
-        left_side = λ r ρ i. let (l, e) = rule_found r ρ i in subst (λ (τ : Rule). IsNonterminal (grammar_of R) τ.left) (sym e) (left_good r l);
-        right_side = λ r ρ i. let (l, e) = rule_found r ρ i in subst (λ (τ : Rule). Every (IsSymbol (grammar_of R)) τ.right) (sym e) (right_good r l);
+        left_side = λ r ρ i. let (l, e) = rule_found R r ρ i in subst (λ (τ : Rule). IsNonterminal (grammar_of R) τ.left) (sym e) (left_good r l);
+        right_side = λ r ρ i. let (l, e) = rule_found R r ρ i in subst (λ (τ : Rule). Every (IsSymbol (grammar_of R)) τ.right) (sym e) (right_good r l);
       }

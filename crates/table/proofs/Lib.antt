@@ -1,8 +1,10 @@
+pub mod Numbering
 pub mod Formed
 pub mod Drafting
 pub mod Marking
 pub mod LookedUp
 pub mod Sections
+pub mod Dots
 pub mod StateSets
 pub mod Defining
 pub mod AsDefined
@@ -15,3 +17,4 @@ pub mod FormRows
 pub mod Firsts
 pub mod Verdicts
 pub mod Files
+pub mod Causes

@@ -1,5 +1,7 @@
 -- The turns of look-ups: an entry for the key is the answer, one for another tells nothing.
-use Rattle.std.proofs.Common.{◌≡◌, ℕ, Bool, true, false, ◌&&◌, eqb, ◌⊎◌, List, [], ◌∷◌, ◌++◌, length, get_or, take, None, Decides, sym, refl, ap, ◌∙◌, ap₂, inl, inr, arith}
+use Rattle.std.proofs.Common.{◌≡◌, ℕ, ◌<◌, Bool, true, false, cond, ◌&&◌, eqb, ◌⊎◌, ◌↔◌, List, [], ◌∷◌, ◌++◌, length, get_or, take, None, Decides, sym, refl, ap, ◌∙◌, subst, ap₂, inl, inr, arith}
+use mathlib.Core.List.Memᴰ
+use mathlib.Core.List.{Memᴰ}
 use Rattle.std.specs.Prelude.{◌==◌}
 use Rattle.std.specs.List.{starts_with}
 use Rattle.std.specs.Cmp.{unsigned_Decides}
@@ -7,8 +9,10 @@ use Rattle.std.proofs.lemmas.Slice.Eq.{slice_eq-Decides}
 use Rattle.std.proofs.lemmas.Bool.{true≢false, cond-true, cond-false, eq-eqb, ne_eqb, eqb-true, and_from, and_parts, cases_eq}
 use Rattle.grammar.specs.Table.{Table}
 use Rattle.frames.specs.Form.{word_of}
-use Rattle.lookahead.specs.Entries.{choices_in}
+use Rattle.items.specs.Entries.{items}
+use Rattle.lookahead.specs.Entries.{words_in, choices_in}
 use Rattle.table.specs.Contents.{successor_in, same_word, choice_in}
+use Rattle.table.specs.LookUps.{BeginsWith}
 use Rattle.table.specs.States.{onwards, after_in}
 
 -- a key is looked for in the first bytes of an entry
@@ -74,3 +78,46 @@ module _ (A a b : ℕ) (xs : List ℕ) where
 pub after_none : (T : Table) (q : ℕ) (front back : List ℕ) → after_in T q back ≡ None → None ≡ after_in T q (front ++ back)
 after_none T q [] back e = sym e
 after_none T q (X ∷ front) back e = ap (onwards T X) (after_none T q front back e)
+
+-- the first of some pairs, as a place and as a word
+pair_is : (entry : List ℕ) → length entry ≡ 2 → entry ≡ get_or entry 0 0 ∷ get_or entry 1 0 ∷ []
+pair_is (a ∷ b ∷ []) long = refl
+pair_is [] long = absurd (omega arith)
+pair_is (a ∷ []) long = absurd (omega arith)
+pair_is (a ∷ b ∷ c ∷ entry) long = absurd (omega arith)
+
+module _ (xs entry rest : List ℕ) (cut : xs ≡ entry ++ rest) (long : length entry ≡ 2) where
+  first_pair : xs ≡ get_or entry 0 0 ∷ get_or entry 1 0 ∷ rest
+  first_pair = cut ∙ ap (λ (pair : List ℕ). pair ++ rest) (pair_is entry long)
+
+  pub first_place : items xs ≡ record { rule = get_or entry 0 0; dot = get_or entry 1 0 } ∷ items rest
+  first_place = ap items first_pair
+
+  pub first_word : words_in xs ≡ word_of (get_or entry 0 0) (get_or entry 1 0) ∷ words_in rest
+  first_word = ap words_in first_pair
+
+pub no_place : (xs : List ℕ) → length xs < 2 → items xs ≡ []
+no_place [] l = refl
+no_place (a ∷ []) l = refl
+no_place (a ∷ b ∷ xs) l = absurd (omega arith)
+
+pub no_word : (xs : List ℕ) → length xs < 2 → words_in xs ≡ []
+no_word [] l = refl
+no_word (a ∷ []) l = refl
+no_word (a ∷ b ∷ xs) l = absurd (omega arith)
+
+-- what is sought is in a list just when it is behind the first, where that is not sought
+pub passed : {A : Type 0} (P : A → Type 0) (x : A) (xs rest : List A) → xs ≡ x ∷ rest → (P x → ⊥) → (y : A) → P y → Memᴰ y rest ↔ Memᴰ y xs
+passed P x xs rest e not y p = (λ m. subst (Memᴰ y) (sym e) (Memᴰ.tail m), λ m. by (Memᴰ.cases_cons (subst (Memᴰ y) e m)))
+  where
+    by : (y ≡ x) ⊎ Memᴰ y rest → Memᴰ y rest
+    by (inl s) = absurd (not (subst P s p))
+    by (inr m) = m
+
+-- a word begins with its first symbol
+pub begins_first : (a b : ℕ) → BeginsWith (word_of a b) (a ∷ [])
+begins_first a b = by (eqb b 0)
+  where
+    by : (t : Bool) → BeginsWith (cond t (a ∷ []) (a ∷ b ∷ [])) (a ∷ [])
+    by true = record { rest = []; splits = refl }
+    by false = record { rest = b ∷ []; splits = refl }

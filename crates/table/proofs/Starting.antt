@@ -1,5 +1,5 @@
 -- State 0 is as defined just when it is the state of the one start item and the one word that is the end mark.
-use Rattle.std.proofs.Common.{◌≡◌, ℕ, zero, suc, ◌<◌, Bool, true, false, ◌&&◌, ◌↔◌, List, [], ◌∷◌, length, Decides, sym, refl, ap, ◌∙◌, arith}
+use Rattle.std.proofs.Common.{◌≡◌, ℕ, ◌<◌, Bool, true, false, ◌&&◌, ◌↔◌, List, [], ◌∷◌, length, Decides, sym, refl, ap, ◌∙◌, arith}
 use mathlib.Core.List.Memᴰ
 use mathlib.Core.List.{Memᴰ}
 use Rattle.std.proofs.lemmas.Bool.{true≢false, and_parts, and_from, lt-ltb}
@@ -15,9 +15,10 @@ use Rattle.lookahead.specs.Stored.{StandsFor}
 use Rattle.lookahead.proofs.Comparing.{equal_words}
 use Rattle.frames.specs.Form.{is_word}
 use Rattle.table.specs.declared.state.State.{State}
-use Rattle.table.specs.Contents.{rules_in, grammar_of, table_of}
+use Rattle.table.specs.Contents.{grammar_of, table_of}
 use Rattle.table.specs.Drafts.{Formed}
 use Rattle.table.specs.States.{IsState}
+use Rattle.table.proofs.Numbering.{many_rules}
 use Rattle.table.proofs.Formed.{ranges}
 use Rattle.table.proofs.Sections.{state_words}
 use Rattle.table.proofs.StateSets.{SameStates, mentioned, mention}
@@ -28,10 +29,6 @@ decides_no f = (λ e. absurd (true≢false (sym e)), λ p. absurd (f p))
 
 pub decides_yes : {P : Type 0} → P → Decides true P
 decides_yes p = (λ _. p, λ _. refl)
-
-rules_many : (R : Raw) (r n : ℕ) → length (rules_in R r n) ≡ n
-rules_many R r zero = refl
-rules_many R r (suc n) = ap suc (rules_many R (suc r) n)
 
 -- the words of the one entry
 mark_word : (y : List ℕ) → WordIn (31 ∷ 0 ∷ []) y ↔ (y ≡ 31 ∷ [])
@@ -44,7 +41,7 @@ module _ {K : ℕ} (R : Raw) (formed : Formed R) (start there : State K) (p : �
     (places : (i : Item) → has start.places i ≡ (in_grid i && mentions (p ∷ 1 ∷ []) i)) (words : StandsFor (header_of R) start.words (31 ∷ 0 ∷ []))
     (is : IsState R 0 there) where
   number : p ≡ length (grammar_of R).rules
-  number = p_is ∙ sym (rules_many R 0 (header_of R).p)
+  number = p_is ∙ sym (many_rules R)
 
   start_is : (i : Item) → has start.places i ≡ true → i ≡ start_item (grammar_of R)
   start_is i e =

@@ -8,3 +8,4 @@ pub mod States
 pub mod Fitted
 pub mod Lowest
 pub mod Checked
+pub mod LookUps

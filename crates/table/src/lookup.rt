@@ -1,13 +1,18 @@
 //! Look-ups in the lists of a state.
-ghost use Rattle.std.specs.Prelude.{◌≡◌, ℕ, [], ◌∷◌};
+ghost use Rattle.std.specs.Prelude.{◌≡◌, ℕ, [], ◌∷◌, IfSome, IfNone, Decides};
+ghost use Rattle.grammar.specs.Grammar.{Rule, IsRule};
+ghost use Rattle.grammar.specs.Item.{raised, Before, IsKernel};
 ghost use Rattle.frames.specs.Form.{word_of};
 ghost use Rattle.frames.specs.Views.{raw};
+ghost use Rattle.items.specs.Entries.{item_of};
 ghost use Rattle.lookahead.specs.Entries.{choices_in};
-ghost use Rattle.table.specs.Contents.{table_of, successor_in, choice_in};
+ghost use Rattle.table.specs.Contents.{grammar_of, table_of, successor_in, choice_in};
+ghost use Rattle.table.specs.LookUps.{AfterDots, BeginsWith, BeginsWord};
 ghost use Rattle.items.specs.Nexts.{found};
 ghost use Rattle.table.specs.States.{answered, after_in, once_in};
 
 use frames::{Frames, Section};
+use items::Place;
 use symbols::Word;
 
 // What stands behind a key in the first entry that begins with it, where an entry is a key and one byte: pairs of a symbol and
@@ -75,4 +80,62 @@ pub fn after(frames: Frames<'_>, q: u8, symbols: &[u8]) -> Option<u8>
         state = successor_of(frames, state, *symbol)?;
     }
     Some(state)
+}
+
+/// The right side of a rule. Behind the last rule there is nothing of use.
+pub fn right_side_of<'a>(frames: Frames<'a>, rule: u8) -> &'a [u8]
+    ensures { (ρ : Rule) → IsRule (grammar_of (raw frames.entry)) rule ρ → result.now ≡ ρ.right }
+{
+    frames.right(rule)
+}
+
+// The symbol just after the dot of a place. The start rule is the last that has a right side.
+fn symbol_after(frames: Frames<'_>, place: Place) -> Option<u8>
+    ensures some { IfSome result (Before (grammar_of (raw frames.entry)) (raised (item_of place))) }
+    ensures none { IfNone result (IsKernel (grammar_of (raw frames.entry)) (item_of place) → ⊥) }
+{
+    if place.rule > frames.header().p {
+        return None;
+    }
+    frames.right(place.rule).get(place.dot as usize).copied()
+}
+
+/// The symbol just after the dots of a state: that of the first of its kernel places that has one.
+pub fn symbol_of(frames: Frames<'_>, q: u8) -> Option<u8>
+    ensures some { IfSome result (AfterDots (grammar_of (raw frames.entry)) (table_of (raw frames.entry)) q) }
+    ensures none { IfNone result ((X : ℕ) → AfterDots (grammar_of (raw frames.entry)) (table_of (raw frames.entry)) q X → ⊥) }
+{
+    for entry in frames.section(q, Section::Kernel).chunks_exact(2) {
+        let place = Place {
+            rule: entry[0],
+            dot: entry[1],
+        };
+        if let Some(symbol) = symbol_after(frames, place) {
+            return Some(symbol);
+        }
+    }
+    None
+}
+
+// Whether a word begins with another.
+fn begins_with(word: Word, front: Word) -> bool
+    ensures { Decides result (BeginsWith (word_of word.first word.second) (word_of front.first front.second)) }
+{
+    word.first == front.first && (front.second == 0 || word.second == front.second)
+}
+
+/// Whether some word of a state begins with a word.
+pub fn begins_word(frames: Frames<'_>, q: u8, front: Word) -> bool
+    ensures { Decides result (BeginsWord (table_of (raw frames.entry)) q (word_of front.first front.second)) }
+{
+    for entry in frames.section(q, Section::Words).chunks_exact(2) {
+        let word = Word {
+            first: entry[0],
+            second: entry[1],
+        };
+        if begins_with(word, front) {
+            return true;
+        }
+    }
+    false
 }

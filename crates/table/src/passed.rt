@@ -10,5 +10,5 @@ pub mod making;
 #[derive(Clone, Copy)]
 pub struct CheckedTable<'a> {
     frames: Frames<'a>,
-    ghost good: { ∥ AcceptedFile (raw frames) ∥₁ },
+    pub ghost good: { ∥ AcceptedFile (raw frames) ∥₁ },
 }
