@@ -370,6 +370,7 @@ def cases(full):
     yield from digit_changes(build(*SMALLEST))
     yield from unsound_cases()
     yield from limit_cases()
+    yield build(2, chain(4), 20, 24)  # 200 states, most with 400 words or more
     yield from thinned(random_cases(rng, 200, 60), 2)
 
 

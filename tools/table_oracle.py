@@ -11,7 +11,7 @@ ENTRY_SIZE = {3: 2, 4: 2, 5: 2, 6: 4}  # by the tag of a frame
 REASONS = {
     1: "the text has over 1048576 bytes",
     2: "the line is no frame",
-    3: "there are more frames than a table has",
+    3: "the store or the list of starts is too short",
     4: "the frame is not as defined",
     5: "the nonterminal derives no token string",
     6: "the nonterminal is in no string from the start",

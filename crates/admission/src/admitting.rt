@@ -4,9 +4,8 @@ ghost use Rattle.load.specs.Loading.{loaded, store_after, starts_after};
 ghost use Rattle.admission.specs.Admitting.{Admits};
 
 use crate::outcome::{Accepted, Refused};
-use frames::Frames;
 use load::load;
-use table::check;
+use table::{check, checked};
 
 /// Loads a text into the store and the starts, and checks the table that it holds.
 pub fn admit(text: &[u8], store: &mut [u8], starts: &mut [usize]) -> Result<Accepted, Refused>
@@ -16,6 +15,6 @@ pub fn admit(text: &[u8], store: &mut [u8], starts: &mut [usize]) -> Result<Acce
 {
     let loaded = load(text, store, starts)?;
     check(store, starts, loaded.frames, loaded.bytes)?;
-    let header = Frames::new(store, starts, loaded.frames, loaded.bytes).header();
+    let header = checked(store, starts, loaded.frames, loaded.bytes).header();
     Ok(Accepted { header, loaded })
 }
