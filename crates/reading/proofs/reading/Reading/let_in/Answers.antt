@@ -1,0 +1,25 @@
+use Rattle.std.proofs.Common.{arith}
+use Rattle.table.specs.Checked.{contents}
+use Rattle.reading.specs.Parts.{entries}
+use Rattle.reading.proofs.Held.{few_symbols, held_enter}
+use Rattle.reading.proofs.Windows.{symbols_length}
+use Rattle.reading.proofs.reading.Reading.let_in.Goals as goal
+
+pub with-self-requires : goal.with-self-requires
+with-self-requires g c =
+    let r = c.args.self.now in
+    omega (arith, c.requires.wants.0, few_symbols (contents r.table) r.table.good, symbols_length (entries r.window))
+
+pub invariant_of-self-clause-placed : goal.invariant_of-self-clause-placed
+invariant_of-self-clause-placed g c =
+    let r = c.args.self.now in
+    let e = c.requires.enters in
+    held_enter (contents r.table) r.table.good (entries r.window) _ c.args.entry e.top e.below c.with-self.ensures e.stack_is r.placed
+    c.requires.wants e.can_enter
+
+pub invariant_of-self-in_default-clause-placed : goal.invariant_of-self-in_default-clause-placed
+invariant_of-self-in_default-clause-placed g c =
+    let r = c.args.self.now in
+    let e = c.requires.enters in
+    held_enter (contents r.table) r.table.good (entries r.window) _ c.args.entry e.top e.below c.with-self.ensures e.stack_is r.placed
+    c.requires.wants e.can_enter

@@ -1,0 +1,106 @@
+//! The moves of a reading.
+ghost use Rattle.std.specs.Prelude.{◌≡◌, ◌<◌, ◌∷◌, ℕ, List};
+ghost use Rattle.source.specs.Meaning.{Meaning};
+ghost use Rattle.source.specs.declared.token.Entry.{Entry};
+ghost use Rattle.source.specs.declared.token.Entry.TheVariants.{Given};
+ghost use Rattle.source.specs.declared.token.Token.{Token};
+ghost use Rattle.grammar.specs.Grammar.{IsToken};
+ghost use Rattle.reading.specs.declared.reading.Reading.{Reading};
+ghost use Rattle.reading.specs.Calls.{Stepped};
+ghost use Rattle.reading.specs.Filling.{Faces, Filling};
+ghost use Rattle.reading.specs.Given.{symbols_of};
+ghost use Rattle.reading.specs.Model.{model, grammar_in};
+ghost use Rattle.reading.specs.Parts.{states, entries};
+ghost use Rattle.reading.specs.State.{finished, taken};
+ghost use Rattle.reading.specs.Window.{Full};
+
+use super::Reading;
+use crate::answer::{Ending, Move, ReadRefusal, Standing};
+use crate::stack::MOST_STATES;
+use source::Token;
+
+impl<F> Reading<'_, F> {
+    // The reading finishes.
+    fn finish(&mut self)
+        requires { self.old.moves < 1000000 }
+        ensures table { self.new.table ≡ self.old.table }
+        ensures state { model self.new ≡ finished (model self.old) }
+    {
+        self.moves += 1;
+        self.standing = Standing::Over(Ending::Finished);
+    }
+
+    // A token is taken: it stands after the dots of the top, and first in the window.
+    fn take(&mut self) -> Token
+        requires moves { self.old.moves < 1000000 }
+        requires faces { (q p a : ℕ) × (Faces self.old q p a × IsToken (grammar_in self.old) a) }
+        ensures table { self.new.table ≡ self.old.table }
+        ensures state { model self.new ≡ taken (model self.old) }
+        ensures first { (behind : List (Entry Token)) × (entries self.old.window ≡ Given result ∷ behind) }
+    {
+        let Some(token) = self.window.first_token() else {
+            unreachable!()
+        };
+        self.window = self.window.rest();
+        self.stack.pop();
+        self.moves += 1;
+        token
+    }
+
+    // The choice for a symbol is announced, with this state below the top, unless the stack would become too long.
+    fn announce(&mut self, below: u8, symbol: u8) -> Result<Move, ReadRefusal<F>>
+        requires moves { self.old.moves < 1000000 }
+        requires faces { (q : ℕ) × Faces self.old q below symbol }
+        requires no_token { IsToken (grammar_in self.old) symbol → ⊥ }
+        ensures { (r : Reading F) (q : ℕ) (m m' : Meaning F) → Filling r m q self.old m' → Stepped r m result self.new m' }
+    {
+        let word = self.window.word();
+        let Some(rule) = self.table.choice(below, symbol, word) else {
+            unreachable!()
+        };
+        let right = self.table.right_side(rule);
+        // the states for the right side come in place of the top
+        if self.stack.states().len() - 1 + right.len() > MOST_STATES {
+            self.end(Ending::StackFull);
+            return Err(ReadRefusal::StackFull);
+        }
+        self.stack.pop();
+        self.stack.push_along(self.table, right);
+        self.rules += 1;
+        self.moves += 1;
+        Ok(Move::Announce(rule))
+    }
+
+    // Makes the move for the symbol after the dots of the top, with this state below it.
+    fn meet(&mut self, top: u8, below: u8) -> Result<Move, ReadRefusal<F>>
+        requires moves { self.old.moves < 1000000 }
+        requires full { Full (grammar_in self.old) (symbols_of (entries self.old.window)) }
+        requires stack { (s : List ℕ) × (states self.old.stack ≡ top ∷ below ∷ s) }
+        ensures { (r : Reading F) (q : ℕ) (m m' : Meaning F) → Filling r m q self.old m' → Stepped r m result self.new m' }
+    {
+        let Some(symbol) = self.table.symbol(top) else {
+            unreachable!()
+        };
+        if self.is_token(symbol) {
+            Ok(Move::Take(self.take()))
+        } else {
+            self.announce(below, symbol)
+        }
+    }
+
+    // Makes the move that the stack and the full window call for.
+    pub(super) fn act(&mut self) -> Result<Move, ReadRefusal<F>>
+        requires moves { self.old.moves < 1000000 }
+        requires full { Full (grammar_in self.old) (symbols_of (entries self.old.window)) }
+        ensures { (r : Reading F) (q : ℕ) (m m' : Meaning F) → Filling r m q self.old m' → Stepped r m result self.new m' }
+    {
+        match self.stack.states() {
+            [] => unreachable!(),
+            [_] => {
+                self.finish();
+                Ok(Move::Finish)
+            }
+            &[top, below, ..] => self.meet(top, below),
+        }
+    }
+}
