@@ -1,7 +1,7 @@
-//! Places and refusals as text.
-ghost use Rattle.source.specs.Shown.{shown_place, shown_too_long};
+//! Places, refusals and faults as text.
+ghost use Rattle.source.specs.Shown.{shown_place, shown_too_long, shown_layer_fault};
 
-use crate::fault::TooLong;
+use crate::fault::{LayerFault, TooLong};
 use crate::token::Place;
 use std::fmt;
 
@@ -21,5 +21,16 @@ impl fmt::Display for TooLong {
 
     fn fmt<W: fmt::Write>(&self, f: &mut fmt::Formatter<W>) -> fmt::Result {
         f.write_str("more than 60,000 bytes")
+    }
+}
+
+impl<F: fmt::Display> fmt::Display for LayerFault<F> {
+    ghost output = { shown_layer_fault F.Display.output };
+
+    fn fmt<W: fmt::Write>(&self, f: &mut fmt::Formatter<W>) -> fmt::Result {
+        match self {
+            LayerFault::Under(fault) => fault.fmt(f),
+            LayerFault::QuotaUsed => f.write_str("the quota is used up"),
+        }
     }
 }

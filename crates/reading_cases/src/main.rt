@@ -1,0 +1,84 @@
+//! Reads every list of a batch on standard input by its table, and prints a line for each, for comparison with lines from elsewhere.
+//!
+//! Each case of the batch is a batch of its own: a table file, and lists of kinds. A case comes behind a line with the decimal number of its
+//! bytes.
+#![tactic(auto)]
+
+use admission::{MOST_FRAMES, STORE_BYTES, admit};
+use batches::Cases;
+use listing::Line;
+use load::Loaded;
+use reading::Reading;
+use source::StoredList;
+use std::io;
+use std::io::{BufWriter, Read, Write};
+use table::{CheckedTable, checked};
+use transcript::{Closing, Rules};
+
+// One more than the moves that a reading makes, so that a run comes to its end.
+const MOVES: u32 = 1_000_001;
+
+/// Reads a list by a table, and writes its line. The lent memory takes the rules.
+fn write_reading<W: Write>(
+    table: CheckedTable<'_>,
+    kinds: &[u8],
+    rules: &mut [u8],
+    out: &mut W,
+) -> io::Result<()> {
+    let mut source = match StoredList::open(kinds) {
+        Ok(source) => source,
+        Err(refusal) => return writeln!(out, "{}", Line::TooLong(refusal)),
+    };
+    let mut reading = Reading::open(table);
+    let ran = reading.run(&mut source, MOVES, rules);
+    let view = reading.close();
+    let announced = Rules {
+        rules: &rules[..ran.rules as usize],
+    };
+    let outcome = ran.refusal.map_or(Ok(()), Err);
+    writeln!(out, "{announced}{}", Closing { outcome, view })
+}
+
+/// Admits the table of a group into this memory, and reads the group's lists by it.
+fn write_group<W: Write>(
+    group: &[u8],
+    store: &mut [u8],
+    starts: &mut [usize],
+    rules: &mut [u8],
+    out: &mut W,
+) -> io::Result<()> {
+    let mut cases = Cases {
+        batch: group,
+        closing: 0,
+    };
+    let text = cases.next().unwrap_or(&[]);
+    match admit(text, store, starts) {
+        Ok(accepted) => {
+            let Loaded { frames, bytes } = accepted.loaded;
+            let table = checked(store, starts, frames, bytes);
+            for kinds in cases {
+                write_reading(table, kinds, rules, out)?;
+            }
+            Ok(())
+        }
+        Err(refused) => writeln!(out, "{refused}"),
+    }
+}
+
+fn main(rt: HostRuntime) -> anyhow::Result<()> {
+    let mut input = Vec::new(rt.alloc());
+    rt.stdin().read_to_end(&mut input)?;
+    let mut store = vec![in rt.alloc(); 0u8; STORE_BYTES]?;
+    let mut starts = vec![in rt.alloc(); 0usize; MOST_FRAMES]?;
+    let mut rules = vec![in rt.alloc(); 0u8; MOVES as usize]?;
+    let mut out = BufWriter::new(rt.alloc(), io::writer(&rt))?;
+    let groups = Cases {
+        batch: &input,
+        closing: 0,
+    };
+    for group in groups {
+        write_group(group, &mut store, &mut starts, &mut rules, &mut out)?;
+    }
+    out.flush()?;
+    Ok(())
+}
