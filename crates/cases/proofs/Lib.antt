@@ -3,4 +3,9 @@ pub mod Closing
 pub mod Beginnings
 pub mod Judged
 pub mod Settled
+pub mod Windows
+pub mod Followed
 pub mod Examples
+pub mod Courses
+pub mod Reports
+pub mod Watching

@@ -1,4 +1,5 @@
 //! Runs of the sources and their layers.
+use reading::{Ending, ReadRefusal, Standing};
 use refusal::Numbered;
 use sheet::{ScanFault, Scanner};
 use source::{Entry, Faulted, LayerFault, Place, Quota, Skip, Source, StoredList, Token, TooLong};
@@ -84,5 +85,24 @@ fn a_sheet_has_at_most_60000_bytes(rt: HostRuntime) -> Result<(), Fail> {
     let end = Entry::End(Place::Two(1, 60_001));
     assert_eq!(rt; scanner.next()?, end);
     assert_eq!(rt; scanner.next()?, end);
+    Ok(())
+}
+
+#[test]
+fn readings_run(rt: HostRuntime) -> Result<(), Fail> {
+    let report = crate::sentence_case();
+    assert_eq!(rt; report.ran.moves, 8);
+    assert_eq!(rt; report.ran.rules, 4);
+    assert_eq!(rt; report.list[3], 2);
+    assert_eq!(rt; report.view.standing, Standing::Over(Ending::Finished));
+    let refused = crate::closed_wrongly_case();
+    assert_eq!(rt;
+        refused.ran.refusal,
+        Some(ReadRefusal::Unfit(Place::One(2)))
+    );
+    assert_eq!(rt; refused.view.moves, 2);
+    let sheet = crate::whole_sheet_case();
+    assert_eq!(rt; sheet.view, report.view);
+    assert_eq!(rt; sheet.refusal, None);
     Ok(())
 }
