@@ -13,6 +13,11 @@ pub const START: u8 = 32;
 /// The right side of the start rule: the start symbol and the end mark.
 pub static START_RIGHT: [u8; 2] = [START, END_MARK];
 
+// Table files have these two numbers in them.
+const _: () = prove!(END_MARK == 31 && START == 32);
+
+const _: () = prove!(START_RIGHT[0] == START && START_RIGHT[1] == END_MARK);
+
 /// A word of at most two symbols: 0 stands where there is none.
 #[derive(Clone, Copy, PartialEq, Eq, Debug)]
 pub struct Word {
