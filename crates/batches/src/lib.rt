@@ -1,24 +1,32 @@
 //! The cases of a batch, one behind the other.
 //!
-//! Each case stands behind its length in at most nine decimal digits and a mark of one byte, and may have bytes behind it that close
+//! Each case stands behind its length, in one to nine decimal digits, and a mark of one byte, and may have bytes behind it that close
 //! it: LENGTH:BYTES, or LENGTH and BYTES on the lines below.
 #![tactic(auto)]
 
-ghost use Rattle.std.specs.Prelude.{◌≡◌, ◌+◌, ◌^◌, ◌<◌, ◌≤◌, length, take, drop, MatchOption, SomeIff};
+ghost use Rattle.std.specs.Prelude.{◌≡◌, ◌+◌, ◌^◌, ◌<◌, ◌≤◌, [], length, take, drop, MatchOption, MatchResult, IfSome, Some, SomeIff};
 ghost use Rattle.std.specs.Char.{is_ascii_digit};
 ghost use Rattle.std.specs.Iterator.{at_most};
 ghost use Rattle.std.specs.List.{prefix_len};
 ghost use Rattle.std.specs.Str.Parse.{AllDigits, digits_value};
-ghost use Rattle.batches.specs.Cases.{digits, Whole, First};
+ghost use Rattle.batches.specs.Cases.{digits, behind, Closed, Whole, First, not_whole};
 
-use std::str;
+use std::error::Error;
+use std::{fmt, str};
 
-/// What is left of a batch, each of whose cases so many bytes close.
+/// What is left of a batch.
 #[derive(Clone, Copy)]
 pub struct Cases<'a> {
     pub batch: &'a [u8],
-    pub closing: usize,
+    /// Stands behind the length of each case.
+    pub mark: u8,
+    /// Stand behind each case.
+    pub closing: &'a [u8],
 }
+
+/// Something is left of a batch, but no whole case stands at its front.
+#[derive(Clone, Copy, PartialEq, Eq, Debug)]
+pub struct NotWhole;
 
 // A length has at most as many digits as this.
 const MOST_DIGITS: usize = 9;
@@ -32,13 +40,14 @@ fn parse(digits: &[u8]) -> Option<usize>
     str::from_utf8(digits).ok()?.parse().ok()
 }
 
-/// The number that at most nine digits write; none write 0.
-fn number(digits: &[u8]) -> usize
+/// The number that at most nine digits write, if there are any.
+#[tactic(auto, using(crate::proofs::Digits::short))]
+fn number(digits: &[u8]) -> Option<usize>
     requires digits { AllDigits 10 digits.now }
     requires few { length digits.now ≤ 9 }
-    ensures { result ≡ digits_value 10 digits.now }
+    ensures { SomeIff result (0 < length digits.now) (digits_value 10 digits.now) }
 {
-    parse(digits).unwrap_or(0)
+    parse(digits)
 }
 
 /// How many digits stand in front.
@@ -64,7 +73,7 @@ fn length_digits(batch: &[u8]) -> usize
 /// The digits in front, and what follows them.
 fn split_digits(batch: &[u8]) -> (&[u8], &[u8])
     ensures front { result.0.now ≡ digits batch.now }
-    ensures behind { result.1.now ≡ drop (length (digits batch.now)) batch.now }
+    ensures behind { result.1.now ≡ behind batch.now }
     ensures digits { AllDigits 10 result.0.now }
     ensures few { length result.0.now ≤ 9 }
 {
@@ -72,31 +81,60 @@ fn split_digits(batch: &[u8]) -> (&[u8], &[u8])
 }
 
 /// What of a case of this size stands behind its length: the case, and what follows the bytes that close it.
-fn split_case(behind: &[u8], size: usize, closing: usize) -> Option<(&[u8], &[u8])>
-    ensures { MatchOption result (length behind.now < 1 + size + closing) (λ cut. (1 + size + closing ≤ length behind.now) × (cut.0.now ≡ take size (drop 1 behind.now)) × (cut.1.now ≡ drop closing (drop size (drop 1 behind.now)))) }
+fn split_case<'a>(
+    behind: &'a [u8],
+    size: usize,
+    mark: u8,
+    closing: &[u8],
+) -> Option<(&'a [u8], &'a [u8])>
+    ensures { MatchOption result (¬ (Closed mark closing.now size behind.entry.now)) (λ cut. Closed mark closing.now size behind.entry.now
+        × (cut.0.now ≡ take size (drop 1 behind.entry.now)) × (cut.1.now ≡ drop (length closing.now) (drop size (drop 1 behind.entry.now)))) }
 {
-    let (case, rest) = behind.get(1..)?.split_at_checked(size)?;
-    Some((case, rest.get(closing..)?))
+    let (case, rest) = behind.strip_prefix(&[mark])?.split_at_checked(size)?;
+    Some((case, rest.strip_prefix(closing)?))
 }
 
-/// The first case of a batch and what follows it, or nothing where no whole case is left.
-fn split_first(batch: &[u8], closing: usize) -> Option<(&[u8], &[u8])>
-    ensures { MatchOption result (¬ (Whole closing batch.now)) (λ cut. First closing batch.now cut.0.now cut.1.now) }
+/// The first case of a batch and what follows it, or nothing where no whole case stands in front.
+#[tactic(auto, using(crate::proofs::Cutting::shorter))]
+fn split_first<'a>(batch: &'a [u8], mark: u8, closing: &[u8]) -> Option<(&'a [u8], &'a [u8])>
+    ensures first { MatchOption result (¬ (Whole mark closing.now batch.entry.now)) (λ cut. First mark closing.now batch.entry.now cut.0.now cut.1.now) }
+    ensures less { IfSome result (λ cut. length cut.1.now < length batch.entry.now) }
 {
     let (front, behind) = split_digits(batch);
-    split_case(behind, number(front), closing)
+    split_case(behind, number(front)?, mark, closing)
 }
 
-impl<'a> Iterator for Cases<'a> {
-    type Item = &'a [u8];
+impl fmt::Display for NotWhole {
+    ghost output = { λ _. Some not_whole };
 
-    ghost next_gives = { λ s r t. MatchOption r (¬ (Whole s.closing s.batch.now)) (λ case. First s.closing s.batch.now case.now t.batch.now × (t.closing ≡ s.closing)) };
+    fn fmt<W: fmt::Write>(&self, f: &mut fmt::Formatter<W>) -> fmt::Result {
+        f.write_str(
+            "it is not whole: a length, its mark, as many bytes and what closes them are wanted",
+        )
+    }
+}
+
+impl Error for NotWhole {}
+
+impl<'a> Iterator for Cases<'a> {
+    type Item = Result<&'a [u8], NotWhole>;
+
+    ghost next_gives = { λ s r t. MatchOption r ((s.batch.now ≡ []) × (t ≡ s)) (λ answer. MatchResult answer
+        (λ case. First s.mark s.closing.now s.batch.now case.now t.batch.now × ((t.mark ≡ s.mark) × (t.closing.now ≡ s.closing.now)))
+        (λ _. (¬ (Whole s.mark s.closing.now s.batch.now)) × (t.batch.now ≡ []))) };
 
     ghost remaining = { λ s. at_most (length s.batch.now) };
 
-    fn next(&mut self) -> Option<&'a [u8]> {
-        let (case, rest) = split_first(self.batch, self.closing)?;
+    /// The first case. Where none is whole, that is said once, and nothing is left.
+    fn next(&mut self) -> Option<Result<&'a [u8], NotWhole>> {
+        if self.batch.is_empty() {
+            return None;
+        }
+        let Some((case, rest)) = split_first(self.batch, self.mark, self.closing) else {
+            self.batch = &[];
+            return Some(Err(NotWhole));
+        };
         self.batch = rest;
-        Some(case)
+        Some(Ok(case))
     }
 }

@@ -6,7 +6,9 @@ ghost use Rattle.load.specs.Loading.{loaded};
 ghost use Rattle.admission.specs.Admitting.{Tells};
 
 use admission::{Line, MOST_FRAMES, STORE_BYTES, admit};
+use anyhow::{Context, ensure};
 use std::alloc::{AllocError, Global};
+use std::env;
 use std::io::Read;
 
 /// The line that is printed of a table file, which is loaded into this memory.
@@ -25,10 +27,18 @@ fn line_of(
 }
 
 fn main(rt: HostRuntime) -> anyhow::Result<()> {
+    let arguments = env::args(&rt).context("the arguments cannot be read")?;
+    ensure!(
+        arguments.count() <= 1,
+        "no argument is wanted: check_table < TABLE"
+    );
     let mut text = Vec::new(rt.alloc());
-    rt.stdin().read_to_end(&mut text)?;
+    rt.stdin()
+        .read_to_end(&mut text)
+        .context("the table on standard input cannot be read")?;
     let mut store = vec![in rt.alloc(); 0u8; STORE_BYTES]?;
     let mut starts = vec![in rt.alloc(); 0usize; MOST_FRAMES]?;
-    rt.print(line_of(rt.alloc(), &text, &mut store, &mut starts)?)?;
+    rt.print(line_of(rt.alloc(), &text, &mut store, &mut starts)?)
+        .context("standard output cannot be written")?;
     Ok(())
 }

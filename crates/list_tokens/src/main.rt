@@ -4,8 +4,10 @@
 ghost use Rattle.std.specs.Prelude.{◌≡◌, IfOk, string_bytes};
 ghost use Rattle.listing.specs.Listings.{sheet_listing};
 
+use anyhow::{Context, ensure};
 use listing::Listing;
 use std::alloc::{AllocError, Global};
+use std::env;
 use std::io::Read;
 
 /// All that is printed of a sheet.
@@ -17,8 +19,16 @@ fn listing_of(heap: Global, sheet: &[u8]) -> Result<String, AllocError>
 }
 
 fn main(rt: HostRuntime) -> anyhow::Result<()> {
+    let arguments = env::args(&rt).context("the arguments cannot be read")?;
+    ensure!(
+        arguments.count() <= 1,
+        "no argument is wanted: list_tokens < SHEET"
+    );
     let mut sheet = Vec::new(rt.alloc());
-    rt.stdin().read_to_end(&mut sheet)?;
-    rt.print(listing_of(rt.alloc(), &sheet)?)?;
+    rt.stdin()
+        .read_to_end(&mut sheet)
+        .context("the sheet on standard input cannot be read")?;
+    rt.print(listing_of(rt.alloc(), &sheet)?)
+        .context("standard output cannot be written")?;
     Ok(())
 }

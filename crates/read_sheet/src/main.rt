@@ -35,17 +35,23 @@ fn read_by_text<W: Write>(
 }
 
 fn main(rt: HostRuntime) -> anyhow::Result<()> {
-    let Some(path) = env::args(&rt)?.nth(1) else {
-        bail!("the name of a table file is wanted: read_sheet TABLE < SHEET");
+    let mut arguments = env::args(&rt).context("the arguments cannot be read")?;
+    let (Some(path), None) = (arguments.nth(1), arguments.next()) else {
+        bail!("one argument is wanted, the name of a table file: read_sheet TABLE < SHEET");
     };
-    let unread = format!(in rt.alloc(); "the table file {path} cannot be read")?;
-    let text = fs::read(&rt, path.as_str()).context(unread)?;
+    let text = fs::read(&rt, path.as_str()).context(format_args!(
+        "the table file {path} cannot be read"
+    ))?;
     let mut sheet = Vec::new(rt.alloc());
-    rt.stdin().read_to_end(&mut sheet)?;
+    rt.stdin()
+        .read_to_end(&mut sheet)
+        .context("the sheet on standard input cannot be read")?;
     let mut store = vec![in rt.alloc(); 0u8; STORE_BYTES]?;
     let mut starts = vec![in rt.alloc(); 0usize; MOST_FRAMES]?;
     let mut out = LineWriter::new(rt.alloc(), io::writer(&rt))?;
-    read_by_text(&text, &sheet, &mut store, &mut starts, &mut out)?;
-    out.flush()?;
+    read_by_text(&text, &sheet, &mut store, &mut starts, &mut out).context(
+        "standard output cannot be written",
+    )?;
+    out.flush().context("standard output cannot be written")?;
     Ok(())
 }

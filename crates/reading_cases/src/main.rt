@@ -5,15 +5,19 @@
 #![tactic(auto)]
 
 use admission::{MOST_FRAMES, STORE_BYTES, admit};
+use anyhow::{Context, ensure};
 use batches::Cases;
 use listing::Line;
 use load::Loaded;
 use reading::Reading;
 use source::StoredList;
-use std::io;
 use std::io::{BufWriter, Read, Write};
+use std::{env, io};
 use table::{CheckedTable, checked};
 use transcript::{Closing, Rules};
+
+// Stands behind the length of a case.
+const MARK: u8 = b'\n';
 
 // One more than the moves that a reading makes, so that a run comes to its end.
 const MOVES: u32 = 1_000_001;
@@ -46,39 +50,69 @@ fn write_group<W: Write>(
     starts: &mut [usize],
     rules: &mut [u8],
     out: &mut W,
-) -> io::Result<()> {
+) -> anyhow::Result<()> {
     let mut cases = Cases {
         batch: group,
-        closing: 0,
+        mark: MARK,
+        closing: b"",
     };
-    let text = cases.next().unwrap_or(&[]);
+    let text = cases
+        .next()
+        .context("it has no table")?
+        .context("its table")?;
     match admit(text, store, starts) {
         Ok(accepted) => {
             let Loaded { frames, bytes } = accepted.loaded;
             let table = checked(store, starts, frames, bytes);
-            for kinds in cases {
-                write_reading(table, kinds, rules, out)?;
+            for (number, kinds) in (1u32..).zip(cases) {
+                let kinds = kinds.context(format_args!("its list {number}"))?;
+                write_reading(table, kinds, rules, out).context("a line cannot be written")?;
             }
-            Ok(())
         }
-        Err(refused) => writeln!(out, "{refused}"),
+        Err(refused) => writeln!(out, "{refused}").context("a line cannot be written")?,
     }
+    Ok(())
+}
+
+/// Writes the lines of all groups of a batch.
+fn write_groups<W: Write>(
+    batch: &[u8],
+    store: &mut [u8],
+    starts: &mut [usize],
+    rules: &mut [u8],
+    out: &mut W,
+) -> anyhow::Result<()> {
+    let groups = Cases {
+        batch,
+        mark: MARK,
+        closing: b"",
+    };
+    for (number, group) in (1u32..).zip(groups) {
+        let group = group.context(format_args!("case {number} of the batch"))?;
+        write_group(group, store, starts, rules, out).context(format_args!(
+            "case {number} of the batch"
+        ))?;
+    }
+    Ok(())
 }
 
 fn main(rt: HostRuntime) -> anyhow::Result<()> {
+    let arguments = env::args(&rt).context("the arguments cannot be read")?;
+    ensure!(
+        arguments.count() <= 1,
+        "no argument is wanted: reading_cases < BATCH"
+    );
     let mut input = Vec::new(rt.alloc());
-    rt.stdin().read_to_end(&mut input)?;
+    rt.stdin()
+        .read_to_end(&mut input)
+        .context("the batch on standard input cannot be read")?;
+    ensure!(!input.is_empty(), "the batch on standard input is empty");
     let mut store = vec![in rt.alloc(); 0u8; STORE_BYTES]?;
     let mut starts = vec![in rt.alloc(); 0usize; MOST_FRAMES]?;
     let mut rules = vec![in rt.alloc(); 0u8; MOVES as usize]?;
     let mut out = BufWriter::new(rt.alloc(), io::writer(&rt))?;
-    let groups = Cases {
-        batch: &input,
-        closing: 0,
-    };
-    for group in groups {
-        write_group(group, &mut store, &mut starts, &mut rules, &mut out)?;
-    }
-    out.flush()?;
-    Ok(())
+    // what is written before a broken case is printed too
+    let written = write_groups(&input, &mut store, &mut starts, &mut rules, &mut out);
+    out.flush().context("standard output cannot be written")?;
+    written
 }

@@ -3,23 +3,33 @@
 //! A sheet comes as LENGTH:BYTES, with a comma and a line end behind it.
 #![tactic(auto)]
 
+use anyhow::{Context, ensure};
 use batches::Cases;
 use listing::Listing;
+use std::env;
 use std::io::Read;
 
-// The comma and the line end.
-const CLOSING: usize = 2;
-
 fn main(rt: HostRuntime) -> anyhow::Result<()> {
+    let arguments = env::args(&rt).context("the arguments cannot be read")?;
+    ensure!(
+        arguments.count() <= 1,
+        "no argument is wanted: sheet_cases < BATCH"
+    );
     let mut input = Vec::new(rt.alloc());
-    rt.stdin().read_to_end(&mut input)?;
+    rt.stdin()
+        .read_to_end(&mut input)
+        .context("the batch on standard input cannot be read")?;
+    ensure!(!input.is_empty(), "the batch on standard input is empty");
     let sheets = Cases {
         batch: &input,
-        closing: CLOSING,
+        mark: b':',
+        closing: b",\n",
     };
     for (number, sheet) in (1u32..).zip(sheets) {
+        let sheet = sheet.context(format_args!("case {number} of the batch"))?;
         let listing = Listing { sheet };
-        rt.print(format!(in rt.alloc(); "case {number}\n{listing}")?)?;
+        rt.print(format!(in rt.alloc(); "case {number}\n{listing}")?)
+            .context("standard output cannot be written")?;
     }
     Ok(())
 }

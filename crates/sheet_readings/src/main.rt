@@ -4,12 +4,16 @@
 #![tactic(auto)]
 
 use admission::{MOST_FRAMES, STORE_BYTES, admit};
+use anyhow::{Context, ensure};
 use batches::Cases;
 use load::Loaded;
-use std::io;
 use std::io::{BufWriter, Read, Write};
+use std::{env, io};
 use table::checked;
 use transcript::transcribe_sheet;
+
+// Stands behind the length of a case.
+const MARK: u8 = b'\n';
 
 /// Admits the table of a group into this memory, and writes the transcripts of the group's sheets by it.
 fn write_group<W: Write>(
@@ -17,38 +21,65 @@ fn write_group<W: Write>(
     store: &mut [u8],
     starts: &mut [usize],
     out: &mut W,
-) -> io::Result<()> {
+) -> anyhow::Result<()> {
     let mut cases = Cases {
         batch: group,
-        closing: 0,
+        mark: MARK,
+        closing: b"",
     };
-    let text = cases.next().unwrap_or(&[]);
+    let text = cases
+        .next()
+        .context("it has no table")?
+        .context("its table")?;
     match admit(text, store, starts) {
         Ok(accepted) => {
             let Loaded { frames, bytes } = accepted.loaded;
             let table = checked(store, starts, frames, bytes);
-            for sheet in cases {
-                transcribe_sheet(table, sheet, out)?;
+            for (number, sheet) in (1u32..).zip(cases) {
+                let sheet = sheet.context(format_args!("its sheet {number}"))?;
+                transcribe_sheet(table, sheet, out).context("a line cannot be written")?;
             }
-            Ok(())
         }
-        Err(refused) => writeln!(out, "{refused}"),
+        Err(refused) => writeln!(out, "{refused}").context("a line cannot be written")?,
     }
+    Ok(())
+}
+
+/// Writes the transcripts of all groups of a batch.
+fn write_groups<W: Write>(
+    batch: &[u8],
+    store: &mut [u8],
+    starts: &mut [usize],
+    out: &mut W,
+) -> anyhow::Result<()> {
+    let groups = Cases {
+        batch,
+        mark: MARK,
+        closing: b"",
+    };
+    for (number, group) in (1u32..).zip(groups) {
+        let group = group.context(format_args!("case {number} of the batch"))?;
+        write_group(group, store, starts, out).context(format_args!("case {number} of the batch"))?;
+    }
+    Ok(())
 }
 
 fn main(rt: HostRuntime) -> anyhow::Result<()> {
+    let arguments = env::args(&rt).context("the arguments cannot be read")?;
+    ensure!(
+        arguments.count() <= 1,
+        "no argument is wanted: sheet_readings < BATCH"
+    );
     let mut input = Vec::new(rt.alloc());
-    rt.stdin().read_to_end(&mut input)?;
+    rt.stdin()
+        .read_to_end(&mut input)
+        .context("the batch on standard input cannot be read")?;
+    ensure!(!input.is_empty(), "the batch on standard input is empty");
     let mut store = vec![in rt.alloc(); 0u8; STORE_BYTES]?;
     let mut starts = vec![in rt.alloc(); 0usize; MOST_FRAMES]?;
     let mut out = BufWriter::new(rt.alloc(), io::writer(&rt))?;
-    let groups = Cases {
-        batch: &input,
-        closing: 0,
-    };
-    for group in groups {
-        write_group(group, &mut store, &mut starts, &mut out)?;
-    }
-    out.flush()?;
-    Ok(())
+    // what is written before a broken case is printed too
+    let written = write_groups(&input, &mut store, &mut starts, &mut out);
+    out.flush().context("standard output cannot be written")?;
+    written
 }
