@@ -1,5 +1,5 @@
 -- The kernel of a successor, place by place.
-use Rattle.std.specs.Prelude.{ℕ, zero, suc, ◌+◌, Bool, false, ◌&&◌, ◌||◌, List, [], ◌∷◌, length, Some, None, Option, ◌==◌, nat_le}
+use Rattle.std.specs.Prelude.{ℕ, zero, suc, ◌+◌, Bool, false, cond, ◌&&◌, ◌||◌, List, [], ◌∷◌, length, Some, None, Option, ◌==◌, nat_le}
 use Rattle.solver.specs.declared.rule.Rule.{Rule}
 use Rattle.solver.specs.declared.yes.Yes.{Yes}
 use Rattle.items.specs.declared.places.Places.{Places}
@@ -25,6 +25,10 @@ in_closure ρs s vs r d = has s (record { rule = r; dot = d }) || brought_in ρs
 abbrev pub found : ℕ → Option ℕ → Bool
 found X None = false
 found X (Some x) = x == X
+
+-- The symbol that stands before the dot one higher, if that is in the closure.
+abbrev pub moved_by : List Rule → Places → List Yes → ℕ → ℕ → Option ℕ
+moved_by ρs s vs r d = cond (in_closure ρs s vs r (d + 1)) (entry_at (right_side ρs r) d) None
 
 -- With the dot one higher it is in the closure, and X stands before that dot.
 abbrev pub next_has : List Rule → Places → List Yes → ℕ → ℕ → ℕ → Bool

@@ -1,7 +1,7 @@
 //! The closure of a set of places, and the kernels of its successors.
-ghost use Rattle.std.specs.Prelude.{◌≡◌, ℕ, ◌/◌, ◌%◌, ◌<◌, false, ◌&&◌, length, slice_index_or, ◌==◌};
+ghost use Rattle.std.specs.Prelude.{◌≡◌, ℕ, ◌/◌, ◌%◌, ◌<◌, false, None, ◌&&◌, length, slice_index_or, ◌==◌};
 ghost use Rattle.items.specs.Actives.{Active, NextOf};
-ghost use Rattle.items.specs.Nexts.{marked, brought_in, in_closure, next_has};
+ghost use Rattle.items.specs.Nexts.{marked, brought_in, in_closure, moved_by, next_has};
 
 use crate::closing::active;
 use crate::place::Place;
@@ -17,22 +17,21 @@ pub struct Closure<'a> {
     places: &'a Places,
     // The mark of each nonterminal that stands before a dot.
     marks: [Yes; 24],
+    // The symbol by which each place, at its number, is one of a successor. Found once, for the successors by all symbols.
+    moves: [Option<u8>; 427],
     ghost active: { ∥ Active rules.now places.now marks ∥₁ },
+    ghost moves_are: { (j : ℕ) → j < 427 → slice_index_or moves j None ≡ moved_by rules.now places.now marks (j / 7) (j % 7) },
 }
 
-impl<'a> Closure<'a> {
-    /// The closure of a set.
-    pub fn new(rules: &'a [Rule<'a>], places: &'a Places) -> Closure<'a>
-        ensures rules { result.rules.now ≡ rules.now }
-        ensures places { result.places.now ≡ places.now }
-    {
-        Closure {
-            rules,
-            places,
-            marks: active(rules, places),
-        }
-    }
+// A set of places and the marks of nonterminals whose rules come in with the dot at their end.
+#[derive(Clone, Copy)]
+struct Marked<'a> {
+    rules: &'a [Rule<'a>],
+    places: &'a Places,
+    marks: [Yes; 24],
+}
 
+impl Marked<'_> {
     // Whether a symbol is a marked nonterminal.
     fn is_marked(&self, symbol: u8) -> bool
         ensures { result ≡ marked self.now.marks symbol }
@@ -67,23 +66,63 @@ impl<'a> Closure<'a> {
         self.places.contains(place) || self.brings_in(place)
     }
 
-    // Whether the closure has the place with the dot one higher, and the symbol stands before that dot.
-    fn leads_to(&self, symbol: u8, place: Place) -> bool
+    // The symbol before the dot one higher, if the closure has the place with that dot.
+    fn moved_by(&self, place: Place) -> Option<u8>
         requires { place.dot < 255 }
-        ensures { result ≡ next_has self.now.rules.now self.now.places.now self.now.marks symbol place.rule place.dot }
+        ensures { result ≡ moved_by self.now.rules.now self.now.places.now self.now.marks place.rule place.dot }
     {
         let raised = Place {
             dot: place.dot + 1,
             ..place
         };
-        symbol_behind(self.rules, place) == Some(symbol) && self.has(raised)
+        if self.has(raised) {
+            symbol_behind(self.rules, place)
+        } else {
+            None
+        }
+    }
+
+    // The symbol by which each place is one of a successor.
+    fn moves(&self) -> [Option<u8>; 427]
+        ensures { (j : ℕ) → j < 427 → slice_index_or result j None ≡ moved_by self.now.rules.now self.now.places.now self.now.marks (j / 7) (j % 7) }
+    {
+        std::array::from_fn(|j| self.moved_by(Place::numbered(j)))
+    }
+}
+
+impl<'a> Closure<'a> {
+    /// The closure of a set.
+    pub fn new(rules: &'a [Rule<'a>], places: &'a Places) -> Closure<'a>
+        ensures rules { result.rules.now ≡ rules.now }
+        ensures places { result.places.now ≡ places.now }
+    {
+        let marked = Marked {
+            rules,
+            places,
+            marks: active(rules, places),
+        };
+        Closure {
+            rules,
+            places,
+            marks: marked.marks,
+            moves: marked.moves(),
+        }
+    }
+
+    // Whether a place, by its number, is one of the successor by a symbol.
+    fn leads_to(&self, symbol: u8, j: usize) -> bool
+        requires { j < 427 }
+        ensures { result ≡ next_has self.now.rules.now self.now.places.now self.now.marks symbol (j / 7) (j % 7) }
+    {
+        let by = self.moves[j];
+        by == Some(symbol)
     }
 
     // The places of a successor, each at its number.
     fn successor_marks(&self, symbol: u8) -> [bool; 427]
         ensures { (j : ℕ) → j < 427 → slice_index_or result j false ≡ next_has self.now.rules.now self.now.places.now self.now.marks symbol (j / 7) (j % 7) }
     {
-        std::array::from_fn(|j| self.leads_to(symbol, Place::numbered(j)))
+        std::array::from_fn(|j| self.leads_to(symbol, j))
     }
 
     /// The kernel of the successor by a symbol.

@@ -6,19 +6,17 @@ ghost use Rattle.words.specs.Sets.{no_words};
 ghost use Rattle.lookahead.specs.Entries.{AllChoices};
 ghost use Rattle.lookahead.specs.Stored.{with_choice, with_choices, StandsForChoices};
 
-use crate::entries::with_entry;
+use crate::entries::put_entry;
 use solver::Value;
 use symbols::Word;
 use words::Words;
 
-// The set with the word of an entry put in, if the entry chooses the rule.
-fn with_choice<const K: usize>(rule: u8, set: Words<K>, word: Word, chosen: u8) -> Words<K>
-    ensures { result ≡ with_choice rule set.entry word.first word.second chosen }
+// Puts the word of an entry into the set, if the entry chooses the rule.
+fn put_choice<const K: usize>(set: &mut Words<K>, rule: u8, word: Word, chosen: u8)
+    ensures { set.new ≡ with_choice rule set.old word.first word.second chosen }
 {
     if chosen == rule {
-        with_entry(set, word)
-    } else {
-        set
+        put_entry(set, word);
     }
 }
 
@@ -34,7 +32,7 @@ pub fn chosen<const K: usize>(entries: &[u8], rule: u8) -> Words<K>
             first: entry[1],
             second: entry[2],
         };
-        found = with_choice(rule, found, word, entry[3]);
+        put_choice(&mut found, rule, word, entry[3]);
     }
     found
 }

@@ -27,12 +27,11 @@ fn stored(word: Word) -> Word
     }
 }
 
-// The set with the word of an entry put in.
-pub(crate) fn with_entry<const K: usize>(mut set: Words<K>, word: Word) -> Words<K>
-    ensures { result ≡ with_entry set.entry word.first word.second }
+// Puts the word of an entry into the set.
+pub(crate) fn put_entry<const K: usize>(set: &mut Words<K>, word: Word)
+    ensures { set.new ≡ with_entry set.old word.first word.second }
 {
     set.insert(stored(word));
-    set
 }
 
 /// The words of entries of two bytes, the second 0 where there is none.
@@ -46,7 +45,7 @@ pub fn words_of<const K: usize>(entries: &[u8]) -> Words<K>
             first: entry[0],
             second: entry[1],
         };
-        found = with_entry(found, word);
+        put_entry(&mut found, word);
     }
     found
 }

@@ -1,13 +1,12 @@
 //! The rows of the states.
 ghost use Rattle.std.specs.Prelude.{◌≡◌, ℕ, ◌<◌, Decides};
 ghost use Rattle.grammar.specs.Table.{EqualStates, EqualToLower, NotFound};
-ghost use Rattle.frames.specs.Raw.{header_of};
+ghost use Rattle.frames.specs.Raw.{header_of, section_of};
 ghost use Rattle.table.specs.Contents.{table_of};
 ghost use Rattle.table.specs.Rows.{SuccessorsOnce};
-ghost use Rattle.table.specs.States.{file, IsState, LeadsTo};
+ghost use Rattle.table.specs.States.{file, LeadsTo};
 
 use crate::at::At;
-use crate::state::State;
 use frames::Section;
 
 // Whether some pair of a symbol and a state names this state.
@@ -23,26 +22,28 @@ fn leads_to(entries: &[u8], q: u8) -> bool
 }
 
 impl<const K: usize> At<'_, K> {
-    // Whether the state, which has been read, is equal to another.
-    fn is_equal(&self, here: &State<K>, m: u8) -> bool
-        requires lower { m < (header_of (file self.now.draft.now)).s }
-        requires here { IsState (file self.now.draft.now) self.now.q here.now }
+    // Whether another state has the same entries in a section.
+    fn same_section(&self, m: u8, section: Section) -> bool
+        ensures { Decides result (section_of (file self.now.draft.now) m section ≡ section_of (file self.now.draft.now) self.now.q section) }
+    {
+        let frames = self.draft.frames;
+        frames.section(m, section) == frames.section(self.q, section)
+    }
+
+    // Whether the state is equal to another. Entries rise, so the same places and words are the same entries.
+    fn is_equal(&self, m: u8) -> bool
+        requires { m < (header_of (file self.now.draft.now)).s }
         ensures { Decides result (EqualStates (table_of (file self.now.draft.now)) m self.now.q) }
     {
-        let other = At {
-            draft: self.draft,
-            q: m,
-        };
-        other.read() == *here
+        self.same_section(m, Section::Kernel) && self.same_section(m, Section::Words)
     }
 
     /// Whether the state is equal to no lower one.
     pub fn is_distinct(&self) -> bool
         ensures { Decides result (EqualToLower (table_of (file self.now.draft.now)) self.now.q → ⊥) }
     {
-        let here = self.read();
         for m in 0..self.q {
-            if self.is_equal(&here, m) {
+            if self.is_equal(m) {
                 return false;
             }
         }

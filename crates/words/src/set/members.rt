@@ -58,10 +58,9 @@ impl<const K: usize> Words<K> {
         if !fits(K, word) {
             return;
         }
-        let mut rows = self.rows;
+        // in place: a set that is copied and written back costs four times as much
         let first = usize::from(word.first);
-        rows[first] = with_bit(rows[first], word.second);
-        *self = Words { rows };
+        self.rows[first] = with_bit(self.rows[first], word.second);
     }
 
     /// Whether the two sets share a word.

@@ -11,7 +11,7 @@ pub loop-entry-preserved : goal.loop-entry-preserved
 loop-entry-preserved g c =
     let (size, before) = c.loop-entry.invariant in
     let steps = c.in-Some.ensures.steps in
-    (steps.0 ∙ size, entries_more _ _ _ _ _ steps.1.0 (steps.1.1 ∙ size) c.with_entry-found.ensures ∙ before)
+    (steps.0 ∙ size, entries_more _ _ _ _ _ steps.1.0 (steps.1.1 ∙ size) c.put_entry.ensures ∙ before)
 
 pub returns-clause-stands : goal.returns-clause-stands
 returns-clause-stands g c h size few all =
