@@ -1,20 +1,15 @@
--- Equal states have the same sets, and who leads to whom is read off the lists where each symbol is named once.
+-- Tests joined, and who leads to whom is read off the lists where each symbol is named once.
 use Rattle.std.proofs.Common.{◌≡◌, ℕ, ◌<◌, Bool, true, false, ◌⊎◌, List, [], ◌∷◌, ◌++◌, length, get_or, Decides, sym, ap, ◌∙◌, subst, inl, inr, arith}
 use mathlib.Core.List.Memᴰ
 use mathlib.Core.List.{Memᴰ}
 use Rattle.std.proofs.lemmas.Bool.{true≢false}
-use Rattle.grammar.specs.Table.{EqualStates, Found}
+use Rattle.grammar.specs.Table.{Found}
 use Rattle.frames.specs.declared.header.Section as section
-use Rattle.frames.specs.Raw.{Raw, header_of, section_of}
-use Rattle.lookahead.proofs.Comparing.{equal_words}
-use Rattle.table.specs.declared.state.State.{State}
+use Rattle.frames.specs.Raw.{Raw, section_of}
 use Rattle.table.specs.Contents.{table_of, Successor, successors_in}
-use Rattle.table.specs.Drafts.{Formed}
 use Rattle.table.specs.Rows.{SuccessorsOnce}
-use Rattle.table.specs.States.{IsState, LeadsTo}
-use Rattle.table.proofs.StateSets.{SameStates}
-use Rattle.table.proofs.Sections.{state_words, successor_entry}
-use Rattle.table.proofs.Defining.{bool_same}
+use Rattle.table.specs.States.{LeadsTo}
+use Rattle.table.proofs.Sections.{successor_entry}
 
 -- tests joined by and
 pub decides_both : {P Q : Type 0} (x y : Bool) → Decides x P → x ≡ true → Decides y Q → Decides y (P × Q)
@@ -23,16 +18,8 @@ decides_both x y d e k = (λ f. (d.0 e, k.0 f), λ (a, b). k.1 b)
 pub decides_first : {P Q : Type 0} (x : Bool) → Decides x P → x ≡ false → Decides x (P × Q)
 decides_first x d e = (λ f. absurd (true≢false (sym f ∙ e)), λ (a, b). d.1 a)
 
-pub equal_decides : {K : ℕ} (R : Raw) → Formed R → (m q : ℕ) → m < (header_of R).s → q < (header_of R).s → (a b : State K) → IsState R m a → IsState R q b
-    → (r : Bool) → Decides r (SameStates a b) → Decides r (EqualStates (table_of R) m q)
-equal_decides {K} R formed m q l n a b is is' r t =
-    let words =
-    equal_words K (header_of R) (section_of R m section.TheVariants.Words) (section_of R q section.TheVariants.Words) (state_words R formed m l) (state_words R formed q n)
-    a.words b.words is.words is'.words in (
-      λ e. let (same, w) = t.0 e in
-          (λ i. (λ k. (is'.places i).0 (sym (same i) ∙ (is.places i).1 k), λ k. (is.places i).0 (same i ∙ (is'.places i).1 k)), words.0 w),
-      λ (k, w). t.1 (λ i. bool_same _ _ (λ e. (is'.places i).1 ((k i).0 ((is.places i).0 e))) (λ e. (is.places i).1 ((k i).1 ((is'.places i).0 e))), words.1 w),
-    )
+pub decides_like : {P Q : Type 0} (x : Bool) → (P → Q) → (Q → P) → Decides x P → Decides x Q
+decides_like x f g d = (λ e. f (d.0 e), λ q. d.1 (g q))
 
 -- a state that is named by an entry
 module _ (q : ℕ) (xs : List ℕ) where

@@ -47,6 +47,11 @@ module _ (R : Raw) (i : Item) where
   symbol_told None e l = (tt, λ (X, b). let (_, f) = before_found X b in absurd cc)
   symbol_told (Some X) e l = (before_there X l (sym e), tt)
 
+-- where a place of the kernel is known, the symbol read for it stands there
+pub symbol_first : (R : Raw) (q : ℕ) {i : Item} → i.rule ≤ (header_of R).p → i.dot < length (right_of R i.rule) → Memᴰ i (items (section_of R q Kernel))
+    → AfterDots (grammar_of R) (table_of R) q (get_or (right_of R i.rule) i.dot 0)
+symbol_first R q {i} rule dot m = (i, (m, before_there R i _ rule (slice_get-get_or (right_of R i.rule) i.dot 0 dot)))
+
 -- At a state of a table of the right form some symbol stands there: its kernel has a place, and every place has a symbol.
 module _ (R : Raw) (formed : Formed R) (q : ℕ) (l : q < (header_of R).s) where
   some_place : (es : List ℕ) → leb 1 (length es) ≡ true → pairs_good R Kernel [] es ≡ true → (i : Item) × Memᴰ i (items es)

@@ -24,7 +24,7 @@ pub record Ranges (h : Header) : Type 0 where
   pub s_low : 1 ≤ h.s
   pub s_high : h.s ≤ 200
 
-range : (low high x : ℕ) → between low high x ≡ true → (low ≤ x) × (x ≤ high)
+pub range : (low high x : ℕ) → between low high x ≡ true → (low ≤ x) × (x ≤ high)
 range low high x e = let (l, h) = and_parts (leb low x) (leb x high) e in (leb-true low x l, leb-true x high h)
 
 module _ (R : Raw) (formed : Formed R) where
@@ -60,7 +60,7 @@ module _ (R : Raw) (formed : Formed R) where
         s_high = (range 1 200 _ s).1;
       }
 
-  rule_is_good : (r : ℕ) → r < (header_of R).p → rule_good (header_of R) (frame R (1 + r)) ≡ true
+  pub rule_is_good : (r : ℕ) → r < (header_of R).p → rule_good (header_of R) (frame R (1 + r)) ≡ true
   rule_is_good r l =
       sym (cond-true _ _ _ (le-leb (1 + r) (header_of R).p (omega arith)))
       ∙ sym (cond-false _ _ _ (ne_eqb (1 + r) 0 (λ e. absurd (omega arith))))

@@ -3,6 +3,9 @@ pub mod Formed
 pub mod Drafting
 pub mod Marking
 pub mod LookedUp
+pub mod Searching
+pub mod Rising
+pub mod SearchedWords
 pub mod Sections
 pub mod Dots
 pub mod StateSets
@@ -10,6 +13,7 @@ pub mod Defining
 pub mod AsDefined
 pub mod Starting
 pub mod Comparisons
+pub mod SameEntries
 pub mod Fitting
 pub mod Choosing
 pub mod Judgements
@@ -17,4 +21,5 @@ pub mod FormRows
 pub mod Firsts
 pub mod Verdicts
 pub mod Files
+pub mod FrameEnds
 pub mod Causes

@@ -9,3 +9,4 @@ pub mod Fitted
 pub mod Lowest
 pub mod Checked
 pub mod LookUps
+pub mod Rising

@@ -11,6 +11,7 @@ mod lowest;
 mod passed;
 mod refused;
 mod rows;
+mod search;
 mod sound;
 mod state;
 mod theorems;

@@ -1,6 +1,5 @@
 //! Look-ups in the lists of a state.
 ghost use Rattle.std.specs.Prelude.{◌≡◌, ℕ, [], ◌∷◌, IfSome, IfNone, Decides};
-ghost use Rattle.grammar.specs.Grammar.{Rule, IsRule};
 ghost use Rattle.grammar.specs.Item.{raised, Before, IsKernel};
 ghost use Rattle.frames.specs.Form.{word_of};
 ghost use Rattle.frames.specs.Views.{raw};
@@ -82,13 +81,6 @@ pub fn after(frames: Frames<'_>, q: u8, symbols: &[u8]) -> Option<u8>
     Some(state)
 }
 
-/// The right side of a rule. Behind the last rule there is nothing of use.
-pub fn right_side_of<'a>(frames: Frames<'a>, rule: u8) -> &'a [u8]
-    ensures { (ρ : Rule) → IsRule (grammar_of (raw frames.entry)) rule ρ → result.now ≡ ρ.right }
-{
-    frames.right(rule)
-}
-
 // The symbol just after the dot of a place. The start rule is the last that has a right side.
 fn symbol_after(frames: Frames<'_>, place: Place) -> Option<u8>
     ensures some { IfSome result (Before (grammar_of (raw frames.entry)) (raised (item_of place))) }
@@ -117,8 +109,8 @@ pub fn symbol_of(frames: Frames<'_>, q: u8) -> Option<u8>
     None
 }
 
-// Whether a word begins with another.
-fn begins_with(word: Word, front: Word) -> bool
+/// Whether a word begins with another.
+pub fn begins_with(word: Word, front: Word) -> bool
     ensures { Decides result (BeginsWith (word_of word.first word.second) (word_of front.first front.second)) }
 {
     word.first == front.first && (front.second == 0 || word.second == front.second)
