@@ -25,7 +25,7 @@ pub enum Class {
     Other,
 }
 
-/// The class of a byte by the character that it stands for: for a token's first byte.
+/// The class of a byte by the character that it stands for: where a byte is tested for one class, this costs no look-up.
 pub fn class_of_character(byte: u8) -> Class
     ensures { result ≡ class_of byte }
 {

@@ -21,25 +21,31 @@ fn letter_at(letters: &[u8], index: usize) -> char
 }
 
 /// Which of the six words these letters spell, if any.
+// The length first: most words are of none that a keyword has.
 #[tactic(auto, using(crate::proofs::Letters::long_words))]
 pub fn keyword_of(letters: &[u8]) -> Option<Keyword>
     ensures { result ≡ keyword_of letters.now }
 {
     let letter = |index: usize| letter_at(letters, index);
-    match (
-        letters.len(),
-        letter(0),
-        letter(1),
-        letter(2),
-        letter(3),
-        letter(4),
-    ) {
-        (2, 't', 'o', _, _, _) => Some(Keyword::To),
-        (3, 's', 'e', 't', _, _) => Some(Keyword::Set),
-        (3, 'o', 'f', 'f', _, _) => Some(Keyword::Off),
-        (4, 'z', 'o', 'n', 'e', _) => Some(Keyword::Zone),
-        (4, 'f', 'r', 'o', 'm', _) => Some(Keyword::From),
-        (5, 'c', 'u', 'r', 'v', 'e') => Some(Keyword::Curve),
+    match letters.len() {
+        2 => match (letter(0), letter(1)) {
+            ('t', 'o') => Some(Keyword::To),
+            _ => None,
+        },
+        3 => match (letter(0), letter(1), letter(2)) {
+            ('s', 'e', 't') => Some(Keyword::Set),
+            ('o', 'f', 'f') => Some(Keyword::Off),
+            _ => None,
+        },
+        4 => match (letter(0), letter(1), letter(2), letter(3)) {
+            ('z', 'o', 'n', 'e') => Some(Keyword::Zone),
+            ('f', 'r', 'o', 'm') => Some(Keyword::From),
+            _ => None,
+        },
+        5 => match (letter(0), letter(1), letter(2), letter(3), letter(4)) {
+            ('c', 'u', 'r', 'v', 'e') => Some(Keyword::Curve),
+            _ => None,
+        },
         _ => None,
     }
 }

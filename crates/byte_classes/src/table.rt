@@ -5,7 +5,7 @@ ghost use Rattle.byte_classes.specs.declared.class.Class.TheVariants.{Letter};
 
 use crate::class::{Class, Mark};
 
-/// The class of a byte, looked up: for runs, byte after byte.
+/// The class of a byte, looked up: for the first byte of a token, and for runs, byte after byte.
 pub fn class_of(byte: u8) -> Class
     ensures { result ≡ class_of byte }
 {

@@ -1,5 +1,7 @@
 pub mod Alone
+pub mod Keywords
 pub mod Laws
+pub mod Leading
 pub mod Positions
 pub mod Reading
 pub mod Runs

@@ -18,7 +18,7 @@ run p (b ∷ bs) = by (p b) refl (run p bs)
         (record { all = (e, more.all); longest = more.longest })
     by false e more = record { all = tt; longest = λ h. both_ways (p b) e h }
 
-refused : (t : Bool) → (t ≡ true → ⊥) → t ≡ false
+pub refused : (t : Bool) → (t ≡ true → ⊥) → t ≡ false
 refused true h = absurd (h refl)
 refused false h = refl
 

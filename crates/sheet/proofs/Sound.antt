@@ -28,10 +28,10 @@ Sound b bs gap = blank b ≡ true
 Sound b bs (token kind n) = (0 < n) × (n ≤ length (b ∷ bs)) × Lexical kind (take n (b ∷ bs)) (drop n (b ∷ bs))
 Sound b bs (fault f) = Wrong (fault_number f) (b ∷ bs)
 
-letter_is : (b : ℕ) → class_of b ≡ Letter → letter b ≡ true
+pub letter_is : (b : ℕ) → class_of b ≡ Letter → letter b ≡ true
 letter_is b e = grind (arith, nat_tests)
 
-digit_is : (b : ℕ) → class_of b ≡ Digit → digit b ≡ true
+pub digit_is : (b : ℕ) → class_of b ≡ Digit → digit b ≡ true
 digit_is b e = grind (arith, nat_tests)
 
 line_end_is : (b : ℕ) → class_of b ≡ LineEnd → b ≡ 10

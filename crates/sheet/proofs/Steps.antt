@@ -1,25 +1,19 @@
 -- The tokens of a text, step by step: what stands at its front is given first, and what is left behind it comes after. Blanks only
--- move the column, and behind them stands no blank.
-use Rattle.std.proofs.Common.{◌≡◌, ℕ, zero, suc, ◌+◌, ◌-◌, ◌<◌, Bool, true, false, cond, eqb, leb, List, [], ◌∷◌, length, take, drop, sym, refl, ap, ◌∙◌, subst, add-zero, one-add, arith, Ok, Err}
+-- move the column.
+use Rattle.std.proofs.Common.{◌≡◌, ℕ, zero, suc, ◌+◌, ◌-◌, ◌<◌, Bool, true, false, cond, List, [], ◌∷◌, length, take, drop, sym, refl, ap, ◌∙◌, add-zero, one-add, arith, Ok, Err}
 use Rattle.std.specs.List.{prefix_len}
 use Rattle.std.proofs.lemmas.List.{take_rest}
-use Rattle.std.proofs.lemmas.Bool.{cond_both, both_ways}
 use Rattle.std.proofs.lemmas.Bool.Decides.{nat_tests}
-use Rattle.byte_classes.specs.Classes.{class_of, blank, letter, digit}
-use Rattle.byte_classes.specs.Keywords.{keyword_of}
-use Rattle.byte_classes.specs.declared.class.Class.{Class}
-use Rattle.byte_classes.specs.declared.class.Class.TheVariants.{Blank, Letter, Digit, LineEnd, Mark, Quote, Hash, Other}
+use Rattle.byte_classes.specs.Classes.{class_of, blank}
+use Rattle.byte_classes.specs.declared.class.Class.TheVariants.{Blank}
 use Rattle.source.specs.Meaning.{ends, faults}
 use Rattle.source.specs.declared.token.Place.{Place}
 use Rattle.source.specs.declared.token.Place.TheVariants.{Two}
-use Rattle.sheet.specs.Kinds.{word_kind}
 use Rattle.sheet.specs.Lexemes.{kind_of, text_of}
 use Rattle.sheet.specs.Pieces.{Cut}
-use Rattle.sheet.specs.Scan.{Front, Scanned, ending, gap, token, fault, limited, closed, by_class, front, before, only, line_after, column_after, go_on, scan_from}
+use Rattle.sheet.specs.Scan.{Scanned, token, fault, by_class, front, before, only, line_after, column_after, go_on, scan_from}
 use Rattle.sheet.specs.Scanners.{spot_of}
-use Rattle.sheet.specs.Runs.{in_name}
 use Rattle.sheet.specs.declared.fault.ScanFault.{ScanFault}
-use Rattle.sheet.specs.declared.fault.ScanFault.TheVariants.{OpenQuote, Oversized}
 use Rattle.sheet.specs.declared.lexeme.Lexeme.{Lexeme}
 
 -- what belongs to the token before is passed over
@@ -68,47 +62,12 @@ blanks_step (b ∷ bs) line column = by (blank b) refl (blanks_step bs line (col
         ∙ ap (λ k. scan_from 0 (drop k (b ∷ bs)) line (column + (1 + n))) (sym (one-add n))
     by false e more = ap (scan_from 0 (b ∷ bs) line) (sym (add-zero column))
 
--- behind the blanks stands no blank
-abbrev NoGap : Front → Type 0
-NoGap ending = Unit {0}
-NoGap gap = ⊥
-NoGap (token kind len) = Unit {0}
-NoGap (fault f) = Unit {0}
-
-closed_no_gap : (n : ℕ) (s : List ℕ) → NoGap (closed n s)
-closed_no_gap n [] = tt
-closed_no_gap n (b ∷ bs) = cond_both (eqb b 34) (token 3 (n + 2)) (fault OpenQuote) NoGap (λ _. tt) (λ _. tt)
-
-limited_no_gap : (kind n : ℕ) → NoGap (limited kind n)
-limited_no_gap kind n = cond_both (leb n 32) (token kind n) (fault Oversized) NoGap (λ _. tt) (λ _. tt)
-
-class_no_gap : (c : Class) (s : List ℕ) → (c ≡ Blank → ⊥) → NoGap (by_class c s)
-class_no_gap Letter s h = let n = prefix_len letter s in limited_no_gap (word_kind (keyword_of (take n s))) n
-class_no_gap Digit s h = limited_no_gap 1 (prefix_len digit s)
-class_no_gap Blank s h = absurd (h refl)
-class_no_gap LineEnd s h = tt
-class_no_gap (Mark m) s h = tt
-class_no_gap Quote s h = let n = prefix_len in_name (drop 1 s) in closed_no_gap n (drop n (drop 1 s))
-class_no_gap Hash s h = tt
-class_no_gap Other s h = tt
-
-pub no_gap : (s : List ℕ) → NoGap (front (drop (prefix_len blank s) s))
-no_gap [] = tt
-no_gap (b ∷ bs) = by (blank b) refl (no_gap bs)
-  where
-    by : (t : Bool) → blank b ≡ t → NoGap (front (drop (prefix_len blank bs) bs)) → NoGap (front (drop (cond t (1 + prefix_len blank bs) 0) (b ∷ bs)))
-    by true e more = subst (λ k. NoGap (front (drop k (b ∷ bs)))) (sym (one-add _)) more
-    by false e more = class_no_gap (class_of b) (b ∷ bs) (λ is. both_ways (blank b) e (class_blank b is))
-
--- the blanks at the front are passed, and what is left has none there
+-- the blanks at the front are passed
 pub passes : (s : List ℕ) (line column n : ℕ) → n ≡ prefix_len blank s → scan_from 0 (take (length s - n) (drop n s)) line (column + n) ≡ scan_from 0 s line column
 passes s line column n all =
     ap (λ r. scan_from 0 r line (column + n)) (take_rest s n)
     ∙ ap (λ k. scan_from 0 (drop k s) line (column + k)) all
     ∙ sym (blanks_step s line column)
-
-pub passed : (s : List ℕ) (n : ℕ) → n ≡ prefix_len blank s → front (take (length s - n) (drop n s)) ≡ gap → ⊥
-passed s n all e = subst NoGap (sym (ap front (take_rest s n ∙ ap (λ k. drop k s) all)) ∙ e) (no_gap s)
 
 -- the first lexeme, and what is left behind its bytes
 pub gives_lexeme : (m : Scanned) (s : List ℕ) (line column : ℕ) (x : Lexeme) (p : Place) (len line' column' : ℕ) → scan_from 0 s line column ≡ m → Cut (front s) s (Ok x) → p ≡ Two line column → len ≡ length (text_of x) → line' ≡ line_after (kind_of x) line → column' ≡ column_after (kind_of x) len column → m ≡ before (spot_of (record { lexeme = x; place = p })) (scan_from 0 (take (length s - len) (drop len s)) line' column')

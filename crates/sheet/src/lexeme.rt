@@ -20,6 +20,7 @@ pub enum Lexeme<'a> {
 
 impl<'a> Lexeme<'a> {
     /// Its bytes, a part of the sheet.
+    #[inline(always)]
     pub fn text(self) -> &'a [u8]
         ensures { result.now ≡ text_of self.entry }
     {
@@ -35,6 +36,7 @@ impl<'a> Lexeme<'a> {
     }
 
     /// The number of its kind, from 1 to 16.
+    #[inline(always)]
     pub fn kind(self) -> u8
         ensures { result ≡ kind_of self.entry }
     {
@@ -59,6 +61,7 @@ impl<'a> Lexeme<'a> {
     }
 
     /// Whether it ends its line.
+    #[inline(always)]
     pub fn is_line_end(self) -> bool
         ensures { result ≡ (kind_of self.entry == 15) }
     {
@@ -76,6 +79,7 @@ pub struct PlacedLexeme<'a> {
 impl<'a> From<PlacedLexeme<'a>> for Token {
     ghost from_gives = { λ x t. t ≡ token_of (spot_of x) };
 
+    #[inline(always)]
     fn from(placed: PlacedLexeme<'a>) -> Token {
         Token {
             kind: placed.lexeme.kind(),

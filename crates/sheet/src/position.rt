@@ -16,6 +16,7 @@ pub(crate) struct Position {
 
 impl Position {
     /// Behind so many bytes of its line.
+    #[inline(always)]
     pub(crate) fn along(self, len: u32) -> Position
         requires { self.column + len < 2 ^ 32 }
         ensures { result ≡ record { line = self.line; column = self.column + len } }
@@ -27,6 +28,7 @@ impl Position {
     }
 
     /// Behind a lexeme of so many bytes that stands here.
+    #[inline(always)]
     pub(crate) fn behind(self, lexeme: Lexeme, len: u32) -> Position
         requires { (self.line < 2 ^ 31) × (self.column + len < 2 ^ 31) }
         ensures line { result.line ≡ line_after (kind_of lexeme.entry) self.line }
@@ -46,6 +48,7 @@ impl Position {
 impl From<Position> for Place {
     ghost from_gives = { λ at place. place ≡ Two at.line at.column };
 
+    #[inline(always)]
     fn from(at: Position) -> Place {
         Place::Two(at.line, at.column)
     }

@@ -31,6 +31,7 @@ impl<S: Source> Source for Skip<S> {
 
     ghost short = { λ s. skipped_short s.kind (S.Source.meaning s.source) (S.Source.short s.source) };
 
+    #[inline(always)]
     fn next(&mut self) -> Result<Entry<Token>, Faulted<LayerFault<S::Fault>>> {
         'skipped: loop {
             match self.source.next()? {
