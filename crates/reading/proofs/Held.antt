@@ -122,7 +122,7 @@ module _ (R : Raw) (good : ∥ AcceptedFile R ∥₁) where
   -- where no token stands there, a rule is chosen and the states for its right side exist
   module _ {q p A : ℕ} {below w : List ℕ} (h : Held R (q ∷ p ∷ below) w) (full : Full g w) (dots : AfterDots g T q A)
       (no_token : IsToken g A → ⊥) where
-    hidden_choice : ∥ ((r : ℕ) × ((s' : List ℕ) × Chosen g T p below A w r s')) ∥₁
+    pub hidden_choice : ∥ ((r : ℕ) × ((s' : List ℕ) × Chosen g T p below A w r s')) ∥₁
     hidden_choice = of_held h ∥∥₁_prop (λ sound ok x. ∣ choice_exists g sound T ok x full dots no_token ∣₁)
 
     pub choice_there : answered (T.choice p A w) ≡ None → ⊥

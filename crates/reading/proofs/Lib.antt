@@ -7,6 +7,10 @@ pub mod Invariant
 pub mod Held
 pub mod Requests
 pub mod Pushing
+pub mod Deciding
+pub mod Remembering
+pub mod Leading
+pub mod Moved
 pub mod Moving
 pub mod Announcing
 pub mod Running

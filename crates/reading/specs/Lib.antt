@@ -2,6 +2,7 @@ pub mod Given
 pub mod State
 pub mod Window
 pub mod Stack
+pub mod Remembered
 pub mod Refusals
 pub mod Parts
 pub mod Step

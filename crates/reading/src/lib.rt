@@ -2,6 +2,7 @@
 #![tactic(auto)]
 
 mod answer;
+mod memory;
 mod reading;
 mod sheet;
 mod stack;

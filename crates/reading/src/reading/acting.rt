@@ -41,44 +41,43 @@ impl<F> Reading<'_, F> {
         let Some(token) = self.window.first_token() else {
             unreachable!()
         };
-        self.window = self.window.rest();
+        self.window.drop_first();
         self.stack.pop();
         self.moves += 1;
         token
     }
 
     // The choice for a symbol is announced, with this state below the top, unless the stack would become too long.
+    #[inline(always)]
     fn announce(&mut self, below: u8, symbol: u8) -> Result<Move, ReadRefusal<F>>
         requires moves { self.old.moves < 1000000 }
         requires faces { (q : ℕ) × Faces self.old q below symbol }
         requires no_token { IsToken (grammar_in self.old) symbol → ⊥ }
         ensures { (r : Reading F) (q : ℕ) (m m' : Meaning F) → Filling r m q self.old m' → Stepped r m result self.new m' }
     {
-        let word = self.window.word();
-        let Some(rule) = self.table.choice(below, symbol, word) else {
-            unreachable!()
-        };
-        let right = self.table.right_side(rule);
+        let course = self.course(below, symbol);
+        let states = course.states();
         // the states for the right side come in place of the top
-        if self.stack.states().len() - 1 + right.len() > MOST_STATES {
+        if self.stack.states().len() - 1 + states.len() > MOST_STATES {
             self.end(Ending::StackFull);
             return Err(ReadRefusal::StackFull);
         }
         self.stack.pop();
-        self.stack.push_along(self.table, right);
+        self.stack.push_all(states);
         self.rules += 1;
         self.moves += 1;
-        Ok(Move::Announce(rule))
+        Ok(Move::Announce(course.rule()))
     }
 
     // Makes the move for the symbol after the dots of the top, with this state below it.
+    #[inline(always)]
     fn meet(&mut self, top: u8, below: u8) -> Result<Move, ReadRefusal<F>>
         requires moves { self.old.moves < 1000000 }
         requires full { Full (grammar_in self.old) (symbols_of (entries self.old.window)) }
         requires stack { (s : List ℕ) × (states self.old.stack ≡ top ∷ below ∷ s) }
         ensures { (r : Reading F) (q : ℕ) (m m' : Meaning F) → Filling r m q self.old m' → Stepped r m result self.new m' }
     {
-        let Some(symbol) = self.table.symbol(top) else {
+        let Some(symbol) = self.symbol(top) else {
             unreachable!()
         };
         if self.is_token(symbol) {
@@ -89,6 +88,7 @@ impl<F> Reading<'_, F> {
     }
 
     // Makes the move that the stack and the full window call for.
+    #[inline(always)]
     pub(super) fn act(&mut self) -> Result<Move, ReadRefusal<F>>
         requires moves { self.old.moves < 1000000 }
         requires full { Full (grammar_in self.old) (symbols_of (entries self.old.window)) }

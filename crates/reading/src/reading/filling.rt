@@ -48,19 +48,24 @@ impl<F> Reading<'_, F> {
     }
 
     // Whether some word of a state begins with the window and an entry behind it.
-    fn begins(&self, state: u8, entry: Entry<Token>) -> bool
-        requires wants { Wants (grammar_in self.now) (symbols_of (entries self.now.window)) }
+    #[inline(always)]
+    fn begins(&mut self, state: u8, entry: Entry<Token>) -> bool
+        requires wants { Wants (grammar_in self.old) (symbols_of (entries self.old.window)) }
         requires some { 1 ≤ symbol_of entry }
-        ensures { Decides result (BeginsWord (table_in self.now) state (symbols_of (entries self.now.window) ++ symbol_of entry ∷ [])) }
+        ensures table { self.new.table ≡ self.old.table }
+        ensures state { model self.new ≡ model self.old }
+        ensures begins { Decides result (BeginsWord (table_in self.old) state (symbols_of (entries self.old.window) ++ symbol_of entry ∷ [])) }
     {
-        self.table
-            .begins_word(state, self.window.with(entry).word())
+        let word = self.window.word_with(entry);
+        self.begins_word(state, word)
     }
 
     // Whether an entry can be let in with this state on top.
-    fn can_enter(&self, top: u8, entry: Entry<Token>) -> bool
-        requires { Wants (grammar_in self.now) (symbols_of (entries self.now.window)) }
-        ensures { Decides result (CanEnter (grammar_in self.now) (table_in self.now) top (symbols_of (entries self.now.window)) entry) }
+    fn can_enter(&mut self, top: u8, entry: Entry<Token>) -> bool
+        requires { Wants (grammar_in self.old) (symbols_of (entries self.old.window)) }
+        ensures table { self.new.table ≡ self.old.table }
+        ensures state { model self.new ≡ model self.old }
+        ensures can { Decides result (CanEnter (grammar_in self.old) (table_in self.old) top (symbols_of (entries self.old.window)) entry) }
     {
         match entry {
             Entry::Given(token) => self.is_token(token.kind) && self.begins(top, entry),
@@ -75,13 +80,14 @@ impl<F> Reading<'_, F> {
         ensures table { self.new.table ≡ self.old.table }
         ensures state { model self.new ≡ filled (model self.old) (entry ∷ []) }
     {
-        self.window = self.window.with(entry);
+        self.window.push(entry);
         if let Entry::Given(_) = entry {
             self.tokens += 1;
         }
     }
 
     // Asks for an entry and lets it in, with this state on top.
+    #[inline(always)]
     fn request<S: Source<Fault = F>>(
         &mut self,
         source: &mut S,
@@ -111,6 +117,7 @@ impl<F> Reading<'_, F> {
     }
 
     // Requests entries until the window is full.
+    #[inline(always)]
     pub(super) fn fill<S: Source<Fault = F>>(
         &mut self,
         source: &mut S,

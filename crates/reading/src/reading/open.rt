@@ -4,6 +4,7 @@ ghost use Rattle.reading.specs.Calls.{Opened};
 
 use super::Reading;
 use crate::answer::Standing;
+use crate::memory::Memory;
 use crate::stack::Stack;
 use crate::window::Window;
 use std::marker::PhantomData;
@@ -22,6 +23,7 @@ impl<'a, F> Reading<'a, F> {
         stack.push(top);
         Reading {
             table,
+            memory: Memory::new(),
             stack,
             window: Window::Empty,
             tokens: 0,

@@ -38,6 +38,7 @@ impl<F> Reading<'_, F> {
     {
         let Reading {
             table: _,
+            memory: _,
             stack: _,
             window: _,
             tokens,

@@ -10,6 +10,7 @@ pub const MOST_MOVES: u32 = 1_000_000;
 
 impl<F> Reading<'_, F> {
     /// Requests what entries are wanted, and makes a move. A refusal ends the reading, unless it is over already.
+    #[inline(always)]
     pub fn step<S: Source<Fault = F>>(&mut self, source: &mut S) -> Result<Move, ReadRefusal<F>>
         ensures { Stepped self.old (S.Source.meaning source.old) result self.new (S.Source.meaning source.new) }
     {

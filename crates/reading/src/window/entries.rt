@@ -52,25 +52,26 @@ impl Window {
         self.len() < k && !self.is_closed()
     }
 
-    /// The window with an entry behind its own.
-    pub fn with(self, entry: Entry<Token>) -> Window
-        requires { length (entries self) < 2 }
-        ensures { entries result ≡ entries self ++ entry ∷ [] }
+    /// Puts an entry behind the others.
+    // Each arm writes what it changes, and no arm the whole window.
+    pub fn push(&mut self, entry: Entry<Token>)
+        requires { length (entries self.old) < 2 }
+        ensures { entries self.new ≡ entries self.old ++ entry ∷ [] }
     {
-        match self {
-            Window::Empty => Window::One(entry),
-            Window::One(first) => Window::Two(first, entry),
+        match *self {
+            Window::Empty => *self = Window::One(entry),
+            Window::One(first) => *self = Window::Two(first, entry),
             Window::Two(_, _) => unreachable!(),
         }
     }
 
-    /// The window without its first entry.
-    pub fn rest(self) -> Window
-        ensures { entries result ≡ drop 1 (entries self) }
+    /// Takes the first entry off, if there is one.
+    pub fn drop_first(&mut self)
+        ensures { entries self.new ≡ drop 1 (entries self.old) }
     {
-        match self {
-            Window::Empty | Window::One(_) => Window::Empty,
-            Window::Two(_, second) => Window::One(second),
+        match *self {
+            Window::Empty | Window::One(_) => *self = Window::Empty,
+            Window::Two(_, second) => *self = Window::One(second),
         }
     }
 
@@ -96,6 +97,22 @@ impl Window {
             Window::Empty => unreachable!(),
             Window::One(entry) => (symbol_of(entry), 0),
             Window::Two(entry, next) => (symbol_of(entry), symbol_of(next)),
+        };
+        Word { first, second }
+    }
+
+    /// The word of the symbols with that of one entry more.
+    pub fn word_with(self, entry: Entry<Token>) -> Word
+        requires room { length (entries self) < 2 }
+        requires symbols { Every (λ a. 1 ≤ a) (symbols_of (entries self)) }
+        requires some { 1 ≤ symbol_of entry }
+        ensures { word_of result.first result.second ≡ symbols_of (entries self) ++ symbol_of entry ∷ [] }
+    {
+        let symbol = symbol_of(entry);
+        let (first, second) = match self {
+            Window::Empty => (symbol, 0),
+            Window::One(before) => (symbol_of(before), symbol),
+            Window::Two(_, _) => unreachable!(),
         };
         Word { first, second }
     }

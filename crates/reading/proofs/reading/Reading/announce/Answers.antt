@@ -4,57 +4,65 @@ use Rattle.reading.specs.Given.{symbols_of}
 use Rattle.reading.specs.Model.{model}
 use Rattle.reading.specs.Parts.{entries}
 use Rattle.reading.specs.State.{announced}
-use Rattle.reading.proofs.Announcing.{some_choice, choice_made, can_push, stack_is, stack_length}
-use Rattle.reading.proofs.Held.{Held, full_length, held_symbols, held_announce}
+use Rattle.reading.proofs.Announcing.{faces_still, made, chosen_still, stack_still, stack_length, held_still}
+use Rattle.reading.proofs.Held.{Held}
+use Rattle.reading.proofs.Moved.{same_filling}
 use Rattle.reading.proofs.Moving.{announces, deepens}
-use Rattle.reading.proofs.Windows.{symbols_length}
 use Rattle.reading.proofs.reading.Reading.announce.Goals as goal
 
-pub word-word-requires-clause-some : goal.word-word-requires-clause-some
-word-word-requires-clause-some g c =
+pub returns-then-states-gt-MOST_STATES : goal.returns-then-states-gt-MOST_STATES
+returns-then-states-gt-MOST_STATES g c =
     let r = c.args.self.now in
-    omega (arith, full_length (contents r.table) r.table.good _ c.requires.faces.1.full, symbols_length (entries r.window))
-
-pub word-word-requires-clause-symbols : goal.word-word-requires-clause-symbols
-word-word-requires-clause-symbols g c = held_symbols (contents c.args.self.now.table) c.args.self.now.placed
-
-pub unreachable-requires : goal.unreachable-requires
-unreachable-requires g c = some_choice c.args.self.now c.requires.faces.1 c.requires.no_token c.word-word.ensures c.choice.ensures c.in_default.is
-
-pub returns-then-states-right-gt-MOST_STATES : goal.returns-then-states-right-gt-MOST_STATES
-returns-then-states-right-gt-MOST_STATES g c =
-    let r = c.args.self.now in
+    let looked = c.course-course in
+    let r' = looked.new.self in
+    let table = looked.ensures.table in
+    let state = looked.ensures.state in
     let faces = c.requires.faces.1 in
-    let made = choice_made r faces c.requires.no_token c.word-word.ensures c.choice.ensures c.in-Some.is c.right_side-right.ensures in
+    let no_token = c.requires.no_token in
+    let leads = looked.ensures.leads in
     λ from q m m' so_far.
-    deepens so_far c.end.new.self c.end.ensures.table faces made.chosen
-    (omega (arith, stack_length r faces c.requires.no_token made, c.if-states-right-gt-MOST_STATES.true, ap length c.states.ensures))
+    deepens (same_filling r r' table state so_far) c.end.new.self c.end.ensures.table (faces_still r r' table state faces no_token looked.result leads)
+    (made r r' table state faces no_token looked.result leads).chosen
+    (omega (
+      arith,
+      stack_length r r' table state faces no_token looked.result leads c.states-states.ensures,
+      c.if-states-gt-MOST_STATES.true,
+      ap length c.states.ensures,
+    ))
     c.end.ensures.state
-
-pub push_along-requires-clause-there : goal.push_along-requires-clause-there
-push_along-requires-clause-there g c =
-    let r = c.args.self.now in
-    let faces = c.requires.faces.1 in
-    let made = choice_made r faces c.requires.no_token c.word-word.ensures c.choice.ensures c.in-Some.is c.right_side-right.ensures in
-    ∣ (made.stack, can_push r faces c.requires.no_token made c.pop.ensures) ∣₁
 
 pub invariant_of-self-clause-placed : goal.invariant_of-self-clause-placed
 invariant_of-self-clause-placed g c =
     let r = c.args.self.now in
-    let R = contents r.table in
-    let w = symbols_of (entries r.window) in
+    let looked = c.course-course in
+    let r' = looked.new.self in
+    let table = looked.ensures.table in
+    let state = looked.ensures.state in
     let faces = c.requires.faces.1 in
-    let made = choice_made r faces c.requires.no_token c.word-word.ensures c.choice.ensures c.in-Some.is c.right_side-right.ensures in
-    let held = subst (λ (s : List _). Held R s w) faces.stack_is r.placed in
-    subst (λ (s : List _). Held R s w) (sym (stack_is r faces c.requires.no_token made c.pop.ensures c.push_along.ensures))
-    (held_announce R r.table.good held made.chosen)
+    let no_token = c.requires.no_token in
+    let leads = looked.ensures.leads in
+    let stack = stack_still r r' table state faces no_token looked.result leads c.states-states.ensures c.pop.ensures c.push_all.ensures in
+    subst (λ (s : List _). Held (contents r'.table) s (symbols_of (entries r'.window))) (sym stack)
+    (held_still r r' table state faces no_token looked.result leads)
 
 pub returns : goal.returns
 returns g c =
     let r = c.args.self.now in
+    let looked = c.course-course in
+    let r' = looked.new.self in
+    let table = looked.ensures.table in
+    let state = looked.ensures.state in
     let faces = c.requires.faces.1 in
-    let made = choice_made r faces c.requires.no_token c.word-word.ensures c.choice.ensures c.in-Some.is c.right_side-right.ensures in
+    let no_token = c.requires.no_token in
+    let leads = looked.ensures.leads in
+    let stack = stack_still r r' table state faces no_token looked.result leads c.states-states.ensures c.pop.ensures c.push_all.ensures in
     λ from q m m' so_far.
-    announces so_far _ refl faces made.chosen
-    (omega (arith, stack_length r faces c.requires.no_token made, c.if-states-right-gt-MOST_STATES.false, ap length c.states.ensures))
-    (ap (announced (model r)) (stack_is r faces c.requires.no_token made c.pop.ensures c.push_along.ensures))
+    announces (same_filling r r' table state so_far) _ refl (faces_still r r' table state faces no_token looked.result leads)
+    (chosen_still r r' table state faces no_token looked.result leads c.rule.ensures)
+    (omega (
+      arith,
+      stack_length r r' table state faces no_token looked.result leads c.states-states.ensures,
+      c.if-states-gt-MOST_STATES.false,
+      ap length c.states.ensures,
+    ))
+    (ap (announced (model r')) stack)

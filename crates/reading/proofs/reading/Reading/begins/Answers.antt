@@ -1,22 +1,27 @@
-use Rattle.std.proofs.Common.{◌≤◌, [], ◌∷◌, sym, ap, ◌∙◌, subst, arith}
+use Rattle.std.proofs.Common.{◌≤◌, [], ◌∷◌, sym, subst, arith}
 use Rattle.grammar.specs.Grammar.{Every}
 use Rattle.grammar.proofs.Lists.{every_append}
 use Rattle.table.specs.Checked.{contents}
 use Rattle.reading.specs.Given.{symbol_of, symbols_of}
 use Rattle.reading.specs.Parts.{entries}
 use Rattle.reading.proofs.Held.{few_symbols, held_symbols}
-use Rattle.reading.proofs.Invariant.{symbols_more}
 use Rattle.reading.proofs.Windows.{symbols_length}
+use Rattle.reading.proofs.Remembering.{first_some}
 use Rattle.reading.proofs.reading.Reading.begins.Goals as goal
 
-pub with-requires : goal.with-requires
-with-requires g c =
+pub word_with-word-requires-clause-room : goal.word_with-word-requires-clause-room
+word_with-word-requires-clause-room g c =
     let r = c.args.self.now in
     omega (arith, c.requires.wants.0, few_symbols (contents r.table) r.table.good, symbols_length (entries r.window))
 
-pub word-requires-clause-symbols : goal.word-requires-clause-symbols
-word-requires-clause-symbols g c =
+pub word_with-word-requires-clause-symbols : goal.word_with-word-requires-clause-symbols
+word_with-word-requires-clause-symbols g c = held_symbols (contents c.args.self.now.table) c.args.self.now.placed
+
+pub begins_word-requires : goal.begins_word-requires
+begins_word-requires g c =
     let r = c.args.self.now in
-    subst (Every (λ a. 1 ≤ a)) (sym (ap symbols_of c.with.ensures ∙ symbols_more (entries r.window) (c.args.entry ∷ [])))
+    let w = c.word_with-word.result in
+    first_some w.first w.second
+    (subst (Every (λ a. 1 ≤ a)) (sym c.word_with-word.ensures)
     (every_append (λ a. 1 ≤ a) (symbols_of (entries r.window)) (symbol_of c.args.entry ∷ [])
-    (held_symbols (contents r.table) r.placed) (c.requires.some, tt))
+    (held_symbols (contents r.table) r.placed) (c.requires.some, tt)))

@@ -5,8 +5,8 @@ use Rattle.reading.proofs.Held.{few_symbols, held_enter}
 use Rattle.reading.proofs.Windows.{symbols_length}
 use Rattle.reading.proofs.reading.Reading.let_in.Goals as goal
 
-pub with-self-requires : goal.with-self-requires
-with-self-requires g c =
+pub push-requires : goal.push-requires
+push-requires g c =
     let r = c.args.self.now in
     omega (arith, c.requires.wants.0, few_symbols (contents r.table) r.table.good, symbols_length (entries r.window))
 
@@ -14,12 +14,12 @@ pub invariant_of-self-clause-placed : goal.invariant_of-self-clause-placed
 invariant_of-self-clause-placed g c =
     let r = c.args.self.now in
     let e = c.requires.enters in
-    held_enter (contents r.table) r.table.good (entries r.window) _ c.args.entry e.top e.below c.with-self.ensures e.stack_is r.placed
+    held_enter (contents r.table) r.table.good (entries r.window) _ c.args.entry e.top e.below c.push.ensures e.stack_is r.placed
     c.requires.wants e.can_enter
 
 pub invariant_of-self-in_default-clause-placed : goal.invariant_of-self-in_default-clause-placed
 invariant_of-self-in_default-clause-placed g c =
     let r = c.args.self.now in
     let e = c.requires.enters in
-    held_enter (contents r.table) r.table.good (entries r.window) _ c.args.entry e.top e.below c.with-self.ensures e.stack_is r.placed
+    held_enter (contents r.table) r.table.good (entries r.window) _ c.args.entry e.top e.below c.push.ensures e.stack_is r.placed
     c.requires.wants e.can_enter

@@ -25,3 +25,6 @@ returns g c =
       next = answered_some _ c.in-Some.top (sym c.successor.ensures ∙ c.in-Some.is);
       state = ap (λ (s : List _). record { stack = s; window = []; tokens = 0; rules = 0; moves = 0; standing = Running }) stack;
     }
+
+pub invariant_of-result-clause-remembers : goal.invariant_of-result-clause-remembers
+invariant_of-result-clause-remembers g c = ∣ c.new.ensures (contents c.args.table) ∣₁

@@ -23,5 +23,5 @@ invariant_of-self-clause-placed g c =
     let (q, p, a, (faces, token)) = c.requires.faces in
     let held = subst (λ (s : List _). Held R s (symbols_of es)) faces.stack_is r.placed in
     let stack = c.pop.ensures ∙ ap (drop 1) faces.stack_is in
-    let window = ap symbols_of c.rest-self.ensures ∙ symbols_drop es in
+    let window = ap symbols_of c.drop_first.ensures ∙ symbols_drop es in
     subst₂ (Held R) (sym stack) (sym window) (held_take R r.table.good held faces.full faces.dots token)
