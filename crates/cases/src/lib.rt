@@ -1,4 +1,4 @@
-//! Worked examples of the sources, of the check and of readings, proved by computation, and tests that run the same code.
+//! Worked examples of the sources, of the check and of readings, proved by computation.
 #![tactic(auto)]
 
 mod compared;
@@ -6,11 +6,7 @@ mod histories;
 mod look_ups;
 mod readings;
 mod sources;
-#[cfg(test)]
-mod table_tests;
 mod tables;
-#[cfg(test)]
-mod tests;
 
 pub use compared::compared_stand;
 pub use histories::{Watched, watched_case, watched_pile_case};
@@ -21,6 +17,6 @@ pub use readings::{
 };
 pub use sources::{Outcome, quota_case, sheet_case, skip_case};
 pub use tables::{
-    accepted_case, enclosing_case, left_recursive_case, looking_further_case, misworded_case,
-    renumbered_case, tables_stand,
+    ACCEPTED, ACCEPTED_STARTS, accepted_case, enclosing_case, left_recursive_case,
+    looking_further_case, misworded_case, renumbered_case, tables_stand,
 };

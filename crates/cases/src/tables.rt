@@ -22,7 +22,8 @@ fn answer_of(store: &[u8], starts: &[usize]) -> Result<(), CheckRefusal>
     verdict_of(store, starts)
 }
 
-pub(crate) static ACCEPTED: &[u8; 80] = b"\x01\x01\x02\x02\x03\x05\
+/// The bytes of the accepted table.
+pub static ACCEPTED: &[u8; 80] = b"\x01\x01\x02\x02\x03\x05\
     \x02\x20\x02\x21\x02\x21\x01\x21\x02\x21\
     \x03\x03\x01\x04\x1f\x00\x05\x20\x01\x21\x02\x06\x20\x02\x00\x00\x21\x01\x00\x01\x21\x1f\x00\x02\
     \x03\x03\x00\x04\x02\x00\x05\x06\
@@ -30,7 +31,8 @@ pub(crate) static ACCEPTED: &[u8; 80] = b"\x01\x01\x02\x02\x03\x05\
     \x03\x01\x00\x04\x01\x00\x05\x06\
     \x03\x00\x00\x04\x02\x00\x05\x06";
 
-pub(crate) static ACCEPTED_STARTS: [usize; 24] = [
+/// Where its frames begin.
+pub static ACCEPTED_STARTS: [usize; 24] = [
     0, 6, 10, 14, 16, 19, 22, 27, 40, 43, 46, 47, 48, 53, 58, 63, 64, 67, 70, 71, 72, 75, 78, 79,
 ];
 

@@ -90,18 +90,18 @@ fn a_sheet_has_at_most_60000_bytes(rt: HostRuntime) -> Result<(), Fail> {
 
 #[test]
 fn readings_run(rt: HostRuntime) -> Result<(), Fail> {
-    let report = crate::sentence_case();
+    let report = cases::sentence_case();
     assert_eq!(rt; report.ran.moves, 8);
     assert_eq!(rt; report.ran.rules, 4);
     assert_eq!(rt; report.list[3], 2);
     assert_eq!(rt; report.view.standing, Standing::Over(Ending::Finished));
-    let refused = crate::closed_wrongly_case();
+    let refused = cases::closed_wrongly_case();
     assert_eq!(rt;
         refused.ran.refusal,
         Some(ReadRefusal::Unfit(Place::One(2)))
     );
     assert_eq!(rt; refused.view.moves, 2);
-    let sheet = crate::whole_sheet_case();
+    let sheet = cases::whole_sheet_case();
     assert_eq!(rt; sheet.view, report.view);
     assert_eq!(rt; sheet.refusal, None);
     Ok(())

@@ -1,6 +1,5 @@
 //! Loads and checks in memories of a caller's own: what no text that was loaded first comes to.
-use crate::look_ups::look_up_case;
-use crate::tables::{ACCEPTED, ACCEPTED_STARTS};
+use cases::{ACCEPTED, ACCEPTED_STARTS, look_up_case};
 use frames::Header;
 use load::{LoadRefusal, Loaded, load};
 use refusal::Numbered;

@@ -1,0 +1,4 @@
+pub mod Causes
+pub mod Tables
+pub mod Scanning
+pub mod Readings
