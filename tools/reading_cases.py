@@ -2,7 +2,8 @@
 """Writes the test vectors of the readings: tables with lists of kinds, and the line that each list has to give.
 
 The lines come from reading_oracle.py: by a general parser over the plain grammar and by a simulation of the canonical
-parser, and not from the product. Run it in the repository's top folder:
+parser, and not from the product. trial.py asks a parser from elsewhere of them too. Run it in the repository's top
+folder:
 
     python3 tools/reading_cases.py
 
@@ -17,8 +18,9 @@ import random
 
 import sheet_cases
 import table_oracle
-from reading_oracle import Parser, Simulation, agree, closing, outcome
-from table_cases import ALL_WORDS, NAMED, SMALLEST, fence, is_sound, named, random_rules, rules_of
+from grammars import ALL_WORDS, NAMED, SMALLEST, fence, is_sound, named, random_rules, rules_of
+from reading_oracle import Canonical, Parser, Simulation, agree, closing, outcome
+from table_cases import CRATES, random_tables
 from table_oracle import START, build, frames_of, read, table
 
 MOST_TOKENS = 60_000
@@ -47,7 +49,7 @@ def derived(g, short, rng, most):
             kinds.append(x)
             continue
         free = len(kinds) + len(todo) + len(parse) // 2 < most
-        rule = rng.choice([r for r, (left, _) in enumerate(g.rules) if left == x]) if free else short[x]
+        rule = rng.choice(g.numbers[x]) if free else short[x]
         parse.append(rule)
         todo += reversed(g.rights[rule])
     return kinds, parse
@@ -153,28 +155,35 @@ def random_groups(rng, count):
             yield usual(made.reordered(made.allowed_order(rng)), rng, 3, 12)
 
 
+def shaped_groups(rng, count):
+    """Tables of grammars of many shapes, so many that are accepted."""
+    tables = (made for made in random_tables(rng) if is_accepted(made))
+    return (usual(made, rng, 4, 20) for made in itertools.islice(tables, count))
+
+
 def groups():
     rng = random.Random(20)
     yield from named_groups(rng)
     yield from other_groups(rng)
     yield from limit_groups()
     yield from random_groups(rng, 150)
+    yield from shaped_groups(random.Random(21), 200)
 
 
 # Files
 
-def line_of(made, parser, kinds, known):
+def line_of(canonical, parser, kinds, known):
     if len(kinds) > MOST_TOKENS:
         return "refused 18 %d: %s" % (len(kinds), TOO_LONG)
-    return outcome(made, parser, kinds, known)
+    return outcome(canonical, parser, kinds, known)
 
 
 def lines_of(made, lists, known):
     """The lines of a group: the table's own where it is refused, and otherwise one for each list."""
     if not is_accepted(made):
         return [table_oracle.outcome(made.text())]
-    parser = Parser(made.grammar)
-    return [line_of(made, parser, kinds, known) for kinds in lists]
+    canonical, parser = Canonical(made), Parser(made.grammar)
+    return [line_of(canonical, parser, kinds, known) for kinds in lists]
 
 
 def case(text):
@@ -241,16 +250,20 @@ def made_of(text):
                               [set(choices) for _, _, _, choices in given])
 
 
-def transcript(made, parser, sheet, known):
+def tokens_of(sheet):
+    """Places and kinds of the tokens that are read, and the line at their end in its three parts."""
+    *listed, last = [line.split(" ", 2) for line in sheet_cases.listing(sheet).splitlines()]
+    return [(place, int(kind)) for place, kind, _ in listed if kind not in SKIPPED], last
+
+
+def transcript(canonical, parser, sheet, known):
     """What has to be printed of a sheet by a table that is accepted."""
-    lines = sheet_cases.listing(sheet).splitlines()
-    if lines[-1].startswith("refused 18"):
-        return lines[-1] + "\n"
-    *listed, last = [line.split(" ", 2) for line in lines]
-    tokens = [(place, int(kind)) for place, kind, _ in listed if kind not in SKIPPED]
+    tokens, last = tokens_of(sheet)
+    if last[1] == "18":
+        return " ".join(last) + "\n"
     kinds = [kind for _, kind in tokens]
-    done = Simulation(made, kinds, last[0] == "refused")
-    assert agree(parser, kinds, done, known), (made.grammar.rules, sheet)
+    done = Simulation(canonical, kinds, last[0] == "refused")
+    assert agree(parser, kinds, done, known), (canonical.grammar.rules, sheet)
     out = ["rule %d" % value if what == "rule" else "token %s %d" % tokens[value] for what, value in done.trace]
     value, reason = 0, None
     if done.answer == 12:
@@ -268,8 +281,8 @@ def transcripts(text, sheets, known=()):
     if verdict.startswith("refused"):
         return verdict + "\n"
     made = made_of(text)
-    parser = Parser(made.grammar)
-    return "".join(transcript(made, parser, sheet, known) for sheet in sheets)
+    canonical, parser = Canonical(made), Parser(made.grammar)
+    return "".join(transcript(canonical, parser, sheet, known) for sheet in sheets)
 
 
 def write_sheet(folder):
@@ -290,22 +303,25 @@ def write_sheets(folder, all_groups):
     (folder / "stdout").write_text(out)
 
 
+def write_stored():
+    write_cases(CRATES / "reading_cases", groups())
+    write_sheet(CRATES / "read_sheet")
+    write_sheets(CRATES / "sheet_readings", sheet_groups())
+
+
 def main():
     options = argparse.ArgumentParser(description=__doc__, formatter_class=argparse.RawDescriptionHelpFormatter)
     options.add_argument("--random", type=int, default=0)
     options.add_argument("--seed", type=int, default=1)
     options.add_argument("--sheet", type=pathlib.Path, nargs=2)
     chosen = options.parse_args()
-    crates = pathlib.Path("crates")
     if chosen.sheet:
         text, sheet = (path.read_bytes() for path in chosen.sheet)
         print(transcripts(text, [sheet]), end="")
     elif chosen.random:
-        write_cases(crates / "reading_cases", random_groups(random.Random(chosen.seed), chosen.random))
+        write_cases(CRATES / "reading_cases", random_groups(random.Random(chosen.seed), chosen.random))
     else:
-        write_cases(crates / "reading_cases", groups())
-        write_sheet(crates / "read_sheet")
-        write_sheets(crates / "sheet_readings", sheet_groups())
+        write_stored()
 
 
 if __name__ == "__main__":

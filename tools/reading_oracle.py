@@ -24,7 +24,7 @@ class Parser:
     def __init__(self, grammar):
         self.t, self.lefts = grammar.t, [left for left, _ in grammar.rules]
         self.rights = [right for _, right in grammar.rules]
-        self.rules = {a: [r for r, left in enumerate(self.lefts) if left == a] for a in grammar.nonterminals}
+        self.rules = grammar.numbers
         self.empty = grown(set(), lambda empty: {left for left, right in grammar.rules if empty.issuperset(right)})
 
     def behind(self, rule, dot):
@@ -87,19 +87,42 @@ class Parser:
 
 # The canonical parser
 
+class Canonical:
+    """The canonical parser of a table: what all its readings look up."""
+
+    def __init__(self, made):
+        self.grammar, self.k, self.t = made.grammar, made.grammar.k, made.grammar.t
+        self.start = made.successors[0][START]
+        self.begun = [{word[:i] for word in words for i in range(1, self.k + 1)} for _, words in made.states]
+        self.behind = [{self.grammar.rights[rule][dot] for rule, dot in kernel} for kernel, _ in made.states]
+        self.choice = [{(a, u, v): rule for a, u, v, rule in choices} for choices in made.choices]
+        self.successors, self.known = made.successors, {}
+
+    def symbol(self, state):
+        """The one symbol that stands behind all dots."""
+        symbol, = self.behind[state]
+        return symbol
+
+    def pushed(self, state, rule):
+        """The states that lead to after(state, rule), the last one on the top."""
+        if (state, rule) not in self.known:
+            states = [state]
+            for x in reversed(self.grammar.rights[rule]):
+                states.append(self.successors[states[-1]][x])
+            self.known[state, rule] = states[1:]
+        return self.known[state, rule]
+
+
 class Simulation:
-    """A reading of a list by a table, whose last entry is the end or a fault.
+    """A reading of a list by a canonical parser; the list's last entry is the end or a fault.
 
     `answer` is the number that ends it, 0 where it finishes; `trace` has a pair for each move: "rule" and the rule, or
     "token" and where in the list it stands.
     """
 
-    def __init__(self, made, kinds, faulty=False):
-        self.made, self.kinds, self.faulty = made, kinds, faulty
-        self.k, self.t = made.grammar.k, made.grammar.t
-        self.stack, self.window = [0, made.successors[0][START]], []  # the top stands last
-        self.begun = [{word[:i] for word in words for i in range(1, self.k + 1)} for _, words in made.states]
-        self.choice = [{(a, u, v): rule for a, u, v, rule in choices} for choices in made.choices]
+    def __init__(self, canonical, kinds, faulty=False):
+        self.canonical, self.kinds, self.faulty = canonical, kinds, faulty
+        self.stack, self.window = [0, canonical.start], []  # the top stands last
         self.asked, self.trace, self.moves, self.answer = 0, [], 0, None
         while self.answer is None:
             self.step()
@@ -114,26 +137,21 @@ class Simulation:
         if self.answer is None and self.stack == [0]:
             self.moves, self.answer = self.moves + 1, 0
         elif self.answer is None:
-            self.act(self.behind_dots())
+            self.act(self.canonical.symbol(self.stack[-1]))
 
     def fill(self):
         """Lets entries in until the window is full, or gives the number of what does not fit."""
-        while len(self.window) < self.k and END not in self.window:
+        while len(self.window) < self.canonical.k and END not in self.window:
             at_end = self.asked == len(self.kinds)
             if at_end and self.faulty:
                 return 15
             symbol = END if at_end else self.kinds[self.asked]
-            known = at_end or 1 <= symbol <= self.t
-            if not known or (*self.window, symbol) not in self.begun[self.stack[-1]]:
+            known = at_end or 1 <= symbol <= self.canonical.t
+            if not known or (*self.window, symbol) not in self.canonical.begun[self.stack[-1]]:
                 return 12
             self.window.append(symbol)
             self.asked += 1
         return None
-
-    def behind_dots(self):
-        kernel, _ = self.made.states[self.stack[-1]]
-        symbol, = {self.made.grammar.rights[rule][dot] for rule, dot in kernel}
-        return symbol
 
     def act(self, symbol):
         """Takes a token, or announces a rule of a nonterminal."""
@@ -143,14 +161,12 @@ class Simulation:
             self.stack.pop()
         else:
             below = self.stack[-2]
-            rule = self.choice[below][symbol, *pair(tuple(self.window))]
-            pushed = [below]
-            for x in reversed(self.made.grammar.rights[rule]):
-                pushed.append(self.made.successors[pushed[-1]][x])
-            if len(self.stack) - 2 + len(pushed) > MOST_STATES:
+            rule = self.canonical.choice[below][symbol, *pair(tuple(self.window))]
+            pushed = self.canonical.pushed(below, rule)
+            if len(self.stack) - 1 + len(pushed) > MOST_STATES:
                 self.answer = 13
                 return
-            self.stack[-2:] = pushed
+            self.stack[-1:] = pushed
             self.trace.append(("rule", rule))
         self.moves += 1
 
@@ -183,10 +199,14 @@ def closing(answer, value, tokens, rules, moves, reason=None):
         answer, value, counts, reason or REASONS[answer])
 
 
-def outcome(made, parser, kinds, known=()):
+def line_of(answer, value, tokens, rules, moves):
     """The line for a stored list: the rules announced, unless they are too many, and the closing line."""
-    done = Simulation(made, kinds)
-    assert len(kinds) > LONG or agree(parser, kinds, done, known), (made.grammar.rules, kinds)
-    rules = "".join("%d " % rule for rule in done.rules) if len(done.rules) <= MOST_PRINTED else "... "
+    shown = "".join("%d " % rule for rule in rules) if len(rules) <= MOST_PRINTED else "... "
+    return shown + closing(answer, value, tokens, len(rules), moves)
+
+
+def outcome(canonical, parser, kinds, known=()):
+    done = Simulation(canonical, kinds)
+    assert len(kinds) > LONG or agree(parser, kinds, done, known), (canonical.grammar.rules, kinds)
     value = done.asked + 1 if done.answer == 12 else 0
-    return rules + closing(done.answer, value, done.tokens, len(done.rules), done.moves)
+    return line_of(done.answer, value, done.tokens, done.rules, done.moves)

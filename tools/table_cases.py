@@ -18,90 +18,14 @@ import pathlib
 import random
 from collections import Counter
 
-from table_oracle import (DIGIT_LIMIT, ENTRY_SIZE, START, TEXT_LIMIT, Grammar, Table, build,
-                          entries_of, frame_of, frames_of, outcome, read, table, text_of)
+import grammars
+from grammars import (ALL_WORDS, ANY_TOKEN, NAMED, SMALLEST, choice_count, fence, is_sound, named, random_rules,
+                      rules_of, size_of)
+from table_oracle import (DIGIT_LIMIT, ENTRY_SIZE, START, STATE_LIMIT, TEXT_LIMIT, Table, build, entries_of, frame_of,
+                          frames_of, outcome, read, table, text_of)
 
 
-# Grammars of the cases
-
-def rules_of(text):
-    """Rules written in hex, left symbol first, with a blank between rules."""
-    return [(rule[0], tuple(rule[1:])) for rule in map(bytes.fromhex, text.split())]
-
-
-def size_of(rules):
-    """The least t and n that the rules need."""
-    used = [x for left, right in rules for x in (left, *right)]
-    return max([1] + [x for x in used if x < START]), max(used) - START + 1
-
-
-NAMED = {  # name: k, t, rules
-    "t": (1, 2, "200221 210121 21"),
-    "early_refusal": (1, 2, "20012101 20022102 21"),
-    "heating1": (1, 14, "202120 20 210924042207 210A24042507 210B2405282907 222423 23062423 23 "
-                        "2402 2403 252726 26062726 26 27010401 2801 280E 290C010D01 29"),
-    "heating2": (2, 14, "202120 20 210902042207 210205262707 2102042407 220223 23060223 23 "
-                        "2401040125 250601040125 25 2601 260E 26010801 270C010D01 27"),
-    "lines": (1, 15, "202120 20 210F 210B0205010F 2109020F"),
-    "nested": (1, 3, "20012002 2003"),
-    "not_strong_k1": (1, 2, "2001210101 2002210201 2102 21"),
-    "not_strong_k2": (2, 2, "2001210101 2002210201 2102 21"),
-    "loop": (1, 2, "20012021 2002 21"),  # a state may be its own successor for any word
-    "left_recursive_k1": (1, 1, "202001 2001"),
-    "left_recursive_k2": (2, 1, "202001 2001"),
-}
-SMALLEST = (1, [(START, ())], 1, 1)
-ANY_TOKEN = [(33, (a,)) for a in range(1, 21)]
-ALL_WORDS = [(START, (33, START)), (START, ())] + ANY_TOKEN  # a state has all 421 words for k = 2
-
-
-def named(name):
-    k, t, text = NAMED[name]
-    rules = rules_of(text)
-    return k, rules, t, size_of(rules)[1]
-
-
-def fence(count, p, filler=19):
-    """A grammar of p rules, LL for k = 1 and 2, whose table has `count` states.
-
-    Each right side i .. i lies between its own tokens, so each dot in it is a state of its
-    own; behind the token 20 the same holds for 33, 34 and 35. A filler that is a nonterminal
-    needs rules of its own and adds states.
-    """
-    rules = [(START, (20, 33, 34, 35, 20))]
-    lengths, more = divmod(count - 7, p - 1)  # but for states 0 and 1 and the rule above
-    for j in range(p - 1):
-        i, length = 1 + j // 4, lengths + (j < more)
-        rules.append((START + j % 4, (i,) + (filler,) * (length - 2) + (i,) * (length > 1)))
-    return rules
-
-
-def choice_count(m, a, b):
-    """For k = 2 a grammar whose state 0 has b(ma + 1) choices.
-
-    A chain of m nonterminals ends in D E, where D is one of a tokens and E one of b.
-    """
-    d, e = START + m, START + m + 1
-    rules = [(START + i, (START + i + 1,)) for i in range(m - 1)] + [(d - 1, (d, e))]
-    return rules + [(d, (i,)) for i in range(1, a + 1)] + [(e, (i,)) for i in range(1, b + 1)]
-
-
-def random_rules(rng):
-    """A small grammar; many right sides begin with a token, so that many are LL."""
-    t, n = rng.randint(1, 4), rng.randint(1, 4)
-    tokens, nonterminals = range(1, t + 1), range(START, START + n)
-    rules = []
-    for a in [a for a in nonterminals for _ in range(rng.choice((1, 1, 2, 2, 2, 3)))]:
-        chances = (0.8, 0.5, 0.5, 0.5)[:rng.choice((0, 1, 1, 2, 2, 3, 3, 4))]
-        rules.append((a, tuple(rng.choice(tokens if rng.random() < chance else nonterminals)
-                               for chance in chances)))
-    rng.shuffle(rules)
-    return rules, t, n
-
-
-def is_sound(rules, t, n):
-    g = Grammar(1, rules, t, n)
-    return g.productive() == g.reached() == set(g.nonterminals)
+CRATES = pathlib.Path("crates")
 
 
 # Damage
@@ -234,8 +158,7 @@ def unsound_cases():
         t, n = size_of(rules)
         for k in (1, 2):
             for n_claimed in (n, n + 1):
-                full = table(k, rules, t, n_claimed).text()
-                yield full.replace(b"\n04\n", b"\n041F00\n")  # a state that has no word
+                yield text_of_table(table(k, rules, t, n_claimed))
 
 
 def limit_cases():
@@ -315,6 +238,27 @@ def random_cases(rng, accepted, refused):
                 yield from (some_change(renumbered.frames(), count, rng) for count in (1, 1, 2))
 
 
+def random_tables(rng):
+    """Tables of grammars of many shapes, without end; where several rules fit a word, all or the lowest are chosen."""
+    while True:
+        k, rules, t, n = grammars.grammar(rng)
+        made = table(k, rules, t, n, rng.choice((30, 30, 30, STATE_LIMIT)), rng.choice((1, 1, grammars.MOST_RULES)))
+        if made:
+            yield made.reordered(made.allowed_order(rng))
+
+
+def text_of_table(made):
+    """Its text; a state that has no word gets one, so that all frames are as defined."""
+    return made.text().replace(b"\n04\n", b"\n041F00\n")
+
+
+def shaped_cases(rng, count):
+    """Tables of grammars of many shapes, and the same with bytes changed."""
+    for made in itertools.islice(random_tables(rng), count):
+        yield text_of_table(made)
+        yield from (some_change(made.frames(), bytes_changed, rng) for bytes_changed in (1, 2))
+
+
 def named_cases(rng):
     """The tables of the named grammars, also with other numbers for their states."""
     for name in NAMED:
@@ -354,7 +298,7 @@ def damaged_states(rng):
         yield from (some_change(frames_of(rng.choice(texts)), 1, rng) for _ in range(30))
 
 
-def cases(full):
+def cases(full=False):
     """All cases, or those that are stored: of the damaged and random ones each second or third."""
     def thinned(texts, step):
         return itertools.islice(texts, 0, None, 1 if full else step)
@@ -372,6 +316,7 @@ def cases(full):
     yield from limit_cases()
     yield build(2, chain(4), 20, 24)  # 200 states, most with 400 words or more
     yield from thinned(random_cases(rng, 200, 60), 2)
+    yield from shaped_cases(random.Random(21), 300)
 
 
 # The largest tables and the longest texts
@@ -427,9 +372,16 @@ def heavy_cases():
 
 
 def write_cases(folder, texts):
-    outcomes = [outcome(text) for text in texts]
+    texts = list(dict.fromkeys(texts))  # each text once
     (folder / "stdin").write_bytes(b"".join(b"%d\n" % len(text) + text for text in texts))
-    (folder / "stdout").write_text("".join(line + "\n" for line in outcomes))
+    (folder / "stdout").write_text("".join(outcome(text) + "\n" for text in texts))
+
+
+def write_stored():
+    write_cases(CRATES / "table_cases", cases())
+    text = build(*named("t"))
+    (CRATES / "check_table/stdin").write_bytes(text)
+    (CRATES / "check_table/stdout").write_text(outcome(text) + "\n")
 
 
 def counts(texts):
@@ -447,23 +399,16 @@ def main():
     options.add_argument("--heavy", type=pathlib.Path)
     options.add_argument("--count", action="store_true")
     chosen = options.parse_args()
-    crates = pathlib.Path("crates")
-    folder = chosen.heavy or crates / "table_cases"
-    if chosen.random:
-        texts = random_cases(random.Random(chosen.seed), chosen.random, chosen.random)
-    elif chosen.heavy:
-        texts = itertools.chain(cases(True), heavy_cases())
-    else:
-        texts = cases(False)
-    texts = list(dict.fromkeys(texts))  # each text once
     if chosen.count:
+        texts = list(dict.fromkeys(cases()))
         print(counts(texts), "%d bytes" % sum(map(len, texts)), sep="\n")
-        return
-    write_cases(folder, texts)
-    if not (chosen.random or chosen.heavy):
-        text = build(*named("t"))
-        (crates / "check_table/stdin").write_bytes(text)
-        (crates / "check_table/stdout").write_text(outcome(text) + "\n")
+    elif chosen.random:
+        texts = random_cases(random.Random(chosen.seed), chosen.random, chosen.random)
+        write_cases(CRATES / "table_cases", texts)
+    elif chosen.heavy:
+        write_cases(chosen.heavy, itertools.chain(cases(full=True), heavy_cases()))
+    else:
+        write_stored()
 
 
 if __name__ == "__main__":

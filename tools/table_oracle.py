@@ -46,6 +46,7 @@ class Grammar:
         self.rules = list(rules)
         self.rights = [right for _, right in rules] + [(START, END)]
         self.nonterminals = range(START, START + n)
+        self.numbers = {a: [r for r, (left, _) in enumerate(self.rules) if left == a] for a in self.nonterminals}
         self.closures, self.joined = {}, {}  # what is known already
         self.first = {a: {(a,)} for a in [*range(1, t + 1), END]}
         self.first.update({a: set() for a in self.nonterminals})
