@@ -12,3 +12,5 @@ pub const STORE_BYTES: usize = 1_048_576;
 
 /// The most frames that a table has: one with its numbers, 60 rules and 200 states of four frames.
 pub const MOST_FRAMES: usize = 861;
+
+const _: () = prove!(STORE_BYTES == 1_048_576 && MOST_FRAMES == 1 + 60 + 4 * 200);
