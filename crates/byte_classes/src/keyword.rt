@@ -23,6 +23,7 @@ fn letter_at(letters: &[u8], index: usize) -> char
 /// Which of the six words these letters spell, if any.
 // The length first: most words are of none that a keyword has.
 #[tactic(auto, using(crate::proofs::Letters::long_words))]
+#[inline(always)]
 pub fn keyword_of(letters: &[u8]) -> Option<Keyword>
     ensures { result ≡ keyword_of letters.now }
 {
