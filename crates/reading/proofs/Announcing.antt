@@ -1,7 +1,7 @@
 -- The course that the code looks up is the choice of the definitions, and the states that it puts on are those that lead to after.
-use Rattle.std.proofs.Common.{◌≡◌, ℕ, ◌+◌, ◌-◌, ◌≤◌, List, ◌∷◌, ◌++◌, length, drop, take, sym, ap, ap₂, ◌∙◌, subst, arith, length-append, length-drop}
+use Rattle.std.proofs.Common.{◌≡◌, ℕ, ◌+◌, ◌-◌, ◌≤◌, List, ◌∷◌, ◌++◌, length, drop, Option, None, Some, MatchOption, refl, ap, ◌∙◌, subst, arith, length-append, length-drop}
 use Rattle.std.proofs.Math.Bridge.{le_prop}
-use Rattle.std.proofs.lemmas.List.{take_at}
+use mathlib.Core.HLevel.{⊥_prop, ×_prop}
 use mathlib.Core.List.{List-discrete}
 use mathlib.Core.Logic.{∥∥₁_elim, ∥∥₁_map}
 use mathlib.Core.Option.{some, discrete}
@@ -9,20 +9,20 @@ use native.Mathlib.Decide.{ℕ_discrete}
 use Rattle.grammar.specs.Grammar.{Rule, IsToken}
 use Rattle.frames.specs.Raw.{Raw}
 use Rattle.table.specs.Checked.{contents}
-use Rattle.table.specs.Contents.{rule_in, grammar_of}
+use Rattle.table.specs.Contents.{rule_in}
+use Rattle.table.specs.LookUps.{AfterDots}
 use Rattle.table.proofs.Numbering.{rule_found}
 use Rattle.reading.specs.declared.memory.Course.{Course}
+use Rattle.reading.specs.declared.memory.Met.{Met}
 use Rattle.reading.specs.declared.reading.Reading.{Reading}
 use Rattle.reading.specs.Filling.{Faces}
 use Rattle.reading.specs.Given.{symbols_of}
-use Rattle.reading.specs.Model.{model, grammar_in, table_in}
+use Rattle.reading.specs.Model.{grammar_in, table_in}
 use Rattle.reading.specs.Parts.{states, entries}
-use Rattle.reading.specs.Remembered.{Leads, HasChoice}
+use Rattle.reading.specs.Remembered.{Leads, Meets, HasChoice}
 use Rattle.reading.specs.Stack.{Pushes, Chosen}
-use Rattle.reading.specs.State.{State}
-use Rattle.reading.proofs.Deciding.{had}
+use Rattle.reading.proofs.Deciding.{had, dec_dots}
 use Rattle.reading.proofs.Held.{Held, hidden_choice, chosen_there, held_announce}
-use Rattle.reading.proofs.Moved.{moved, same_faces}
 use Rattle.reading.proofs.Pushing.{pushes_one}
 
 module _ {F : Type 0} (r : Reading F) {q p A : ℕ} (faces : Faces r q p A) (no_token : IsToken (grammar_in r) A → ⊥) where
@@ -38,11 +38,10 @@ module _ {F : Type 0} (r : Reading F) {q p A : ℕ} (faces : Faces r q p A) (no_
   pub has_choice : ∥ HasChoice R p A window ∥₁
   has_choice = ∥∥₁_map (hidden_choice R r.table.good held faces.full faces.dots no_token) (λ c. (faces.below, c))
 
-  -- rule n is chosen, and these states come in place of the top
-  pub record Made (n : ℕ) (upper : List ℕ) : Type 0 where
+  -- rule n is chosen, and this is the stack then
+  pub record Made (n : ℕ) : Type 0 where
     pub stack : List ℕ
     pub chosen : Chosen (grammar_in r) (table_in r) p faces.below A window n stack
-    pub stack_is : upper ++ drop 1 (states r.stack) ≡ stack
 
   module _ (c : Course) (leads : ∥ Leads R p A window c ∥₁) where
     pub steps_few : c.steps ≤ 6
@@ -51,59 +50,53 @@ module _ {F : Type 0} (r : Reading F) {q p A : ℕ} (faces : Faces r q p A) (no_
     choice_is : (table_in r).choice p A window ≡ some c.rule
     choice_is = had (discrete ℕ_discrete _ _) (∥∥₁_map leads (λ l. l.choice_is))
 
-    upper : (stack : List ℕ) → Chosen (grammar_in r) (table_in r) p faces.below A window c.rule stack → Leads R p A window c
-        → take c.steps c.states ++ drop 1 (states r.stack) ≡ stack
-    upper stack chosen l =
-        let rule = (rule_found R c.rule chosen.rule chosen.is_rule).1 in
-        let pushed = subst (λ (τ : Rule). Pushes (table_in r) τ.right (p ∷ faces.below) stack) rule chosen.pushed in
-        let front = ap (take c.steps) l.states_are ∙ take_at l.states l.unused c.steps l.many in
-        ap₂ (λ (x y : List ℕ). x ++ y) front (ap (drop 1) faces.stack_is)
-        ∙ pushes_one (table_in r) (rule_in R c.rule).right (p ∷ faces.below) _ stack (l.pushes faces.below) pushed
-
-    pub course_made : Made c.rule (take c.steps c.states)
+    pub course_made : Made c.rule
     course_made =
         let (stack, chosen) = chosen_there R r.table.good held faces.full faces.dots no_token c.rule choice_is in
-        record {
-          stack = stack;
-          chosen = chosen;
-          stack_is = had (List-discrete ℕ_discrete _ _) (∥∥₁_map leads (upper stack chosen));
-        }
+        record { stack = stack; chosen = chosen }
 
--- the same of a reading that the course was looked up by, whose memory alone has changed
-module _ {F : Type 0} (r r' : Reading F) (table : r'.table ≡ r.table) (state : model r' ≡ model r) {q p A : ℕ} (faces : Faces r q p A)
-    (no_token : IsToken (grammar_in r) A → ⊥) (c : Course) (leads : ∥ Leads (contents r.table) p A (symbols_of (entries r.window)) c ∥₁) where
-  pub faces_still : Faces r' q p A
-  faces_still = same_faces r r' table state faces
+    -- its states, above what was below the top
+    course_upper : (l : Leads R p A window c) → l.states ++ drop 1 (states r.stack) ≡ course_made.stack
+    course_upper l =
+        let chosen = course_made.chosen in
+        let rule = (rule_found R c.rule chosen.rule chosen.is_rule).1 in
+        let pushed = subst (λ (τ : Rule). Pushes (table_in r) τ.right (p ∷ faces.below) course_made.stack) rule chosen.pushed in
+        ap (λ (b : List ℕ). l.states ++ drop 1 b) faces.stack_is
+        ∙ pushes_one (table_in r) (rule_in R c.rule).right (p ∷ faces.below) _ course_made.stack (l.pushes faces.below) pushed
 
-  abbrev NoToken : Raw → State → Type 0
-  NoToken R s = IsToken (grammar_of R) A → ⊥
+    pub course_length : length course_made.stack ≡ c.steps + (length (states r.stack) - 1)
+    course_length =
+        had (ℕ_discrete _ _) (∥∥₁_map leads (λ l.
+        let below = drop 1 (states r.stack) in
+        omega (arith, ap length (course_upper l), length-append l.states below, length-drop 1 (states r.stack), l.many)))
 
-  pub no_token_still : IsToken (grammar_in r') A → ⊥
-  no_token_still = moved r r' table state NoToken no_token
+    pub course_stack : {s : List ℕ}
+        → ((unused upper : List ℕ) → c.states ≡ unused ++ upper → length upper ≡ c.steps → s ≡ upper ++ drop 1 (states r.stack))
+        → s ≡ course_made.stack
+    course_stack put = had (List-discrete ℕ_discrete _ _) (∥∥₁_map leads (λ l. put l.unused l.states l.states_are l.many ∙ course_upper l))
 
-  leads_still : ∥ Leads (contents r'.table) p A (symbols_of (entries r'.window)) c ∥₁
-  leads_still = moved r r' table state (λ R s. ∥ Leads R p A (symbols_of s.window) c ∥₁) leads
+    pub course_held : Held R course_made.stack window
+    course_held = held_announce R r.table.good held course_made.chosen
 
-  pub few_still : c.steps ≤ 6
-  few_still = steps_few r faces no_token c leads
+-- what is met, and what of it is hidden
+module _ {F : Type 0} (r : Reading F) {q p : ℕ} (met : Met) (meets : ∥ Meets (contents r.table) q p (symbols_of (entries r.window)) met ∥₁) where
+  abbrev Token : Type 0
+  Token = IsToken (grammar_in r) met.symbol
 
-  pub made : Made r' faces_still no_token_still c.rule (take c.steps c.states)
-  made = course_made r' faces_still no_token_still c leads_still
+  abbrev Rule_of : Course → Type 0
+  Rule_of c = (Token → ⊥) × Leads (contents r.table) p met.symbol (symbols_of (entries r.window)) c
 
-  pub chosen_still : {n : ℕ} → n ≡ c.rule
-      → Chosen (grammar_in r') (table_in r') p faces_still.below A (symbols_of (entries r'.window)) n made.stack
-  chosen_still e =
-      subst (λ (n : ℕ). Chosen (grammar_in r') (table_in r') p faces_still.below A (symbols_of (entries r'.window)) n made.stack) (sym e) made.chosen
+  abbrev Hidden : Course → Type 0
+  Hidden c = (Token → ⊥) × ∥ Leads (contents r.table) p met.symbol (symbols_of (entries r.window)) c ∥₁
 
-  -- the states that the code puts on, and how many there are then
-  pub stack_still : {upper popped s : List ℕ} → upper ≡ take c.steps c.states → popped ≡ drop 1 (states r'.stack) → s ≡ upper ++ popped → s ≡ made.stack
-  stack_still u d e = e ∙ ap₂ (λ (x y : List ℕ). x ++ y) u d ∙ made.stack_is
+  pub met_dots : AfterDots (grammar_in r) (table_in r) q met.symbol
+  met_dots = had (dec_dots (grammar_in r) (table_in r) q met.symbol) (∥∥₁_map meets (λ m. m.dots))
 
-  pub stack_length : {upper : List ℕ} → upper ≡ take c.steps c.states → length made.stack ≡ length upper + (length (states r'.stack) - 1)
-  stack_length {upper} u =
-      omega (arith, ap length made.stack_is, length-append (take c.steps c.states) (drop 1 (states r'.stack)), length-drop 1 (states r'.stack), ap length u)
-
-  pub held_still : Held (contents r'.table) made.stack (symbols_of (entries r'.window))
-  held_still =
-      held_announce (contents r'.table) r'.table.good
-      (subst (λ (s : List ℕ). Held (contents r'.table) s (symbols_of (entries r'.window))) faces_still.stack_is r'.placed) made.chosen
+  pub met_goes_on : MatchOption met.course Token Hidden
+  met_goes_on = by met.course refl
+    where
+      by : (o : Option Course) → met.course ≡ o → MatchOption o Token Hidden
+      by None e = ∥∥₁_elim meets (×_prop le_prop le_prop) (λ m. subst (λ (o : Option Course). MatchOption o Token Rule_of) e m.goes_on)
+      by (Some c) e =
+          let both = ∥∥₁_map meets (λ m. subst (λ (o : Option Course). MatchOption o Token Rule_of) e m.goes_on) in
+          (λ t. ∥∥₁_elim both ⊥_prop (λ b. b.0 t), ∥∥₁_map both (λ b. b.1))

@@ -15,7 +15,7 @@ use Rattle.grammar.specs.Sound.{Sound}
 use Rattle.grammar.specs.Table.{Table, Accepted}
 use Rattle.frames.specs.Raw.{Raw, header_of}
 use Rattle.table.specs.Contents.{rule_in, grammar_of, table_of}
-use Rattle.table.specs.LookUps.{AfterDots}
+use Rattle.table.specs.LookUps.{AfterDots, BeginsWord}
 use Rattle.table.specs.Rows.{AcceptedFile}
 use Rattle.table.specs.States.{answered}
 use Rattle.table.proofs.Defining.{answered_none}
@@ -23,10 +23,12 @@ use Rattle.table.proofs.Numbering.{rule_there, rule_found}
 use Rattle.table.proofs.Files.{sound_grammar, accepted_table, formed_file}
 use Rattle.table.proofs.Formed.{Ranges, ranges}
 use Rattle.reading.specs.Given.{symbols_of}
+use Rattle.reading.specs.Parts.{ToldBySymbol}
 use Rattle.reading.specs.Window.{Wants, Full, CanEnter}
 use Rattle.reading.specs.Stack.{Pushes, Chosen, Placed}
+use Rattle.reading.proofs.Deciding.{had, dec_word}
 use Rattle.reading.proofs.Invariant.{symbols_more}
-use Rattle.reading.proofs.Placing.{start_next, placed_opening, placed_enter, placed_take, placed_announce, placed_some, placed_bottom, after_dots_exists, choice_exists}
+use Rattle.reading.proofs.Placing.{start_next, placed_word, placed_opening, placed_enter, placed_take, placed_announce, placed_some, placed_bottom, after_dots_exists, choice_exists}
 use Rattle.reading.proofs.Fronts.{full_some}
 use Rattle.reading.proofs.Pushing.{Pushed, pushes_there}
 
@@ -70,6 +72,13 @@ module _ (R : Raw) (good : ∥ AcceptedFile R ∥₁) where
   pub few_tokens : g.t ≤ 20
   few_tokens = of_numbers le_prop (λ r. r.t_high)
 
+  pub some_symbol : 1 ≤ g.k
+  some_symbol = of_numbers le_prop (λ r. r.k_low)
+
+  pub told_by_symbol : (q : ℕ) (w : List ℕ) (e : Entry Token) → CanEnter g T q w e → ToldBySymbol e
+  told_by_symbol q w (Given t) can = (can.0.0, omega (arith, can.0.1, few_tokens))
+  told_by_symbol q w (End p) can = tt
+
   pub start_there : answered (T.next 0 start_symbol) ≡ None → ⊥
   start_there e = of_table ⊥_prop (λ sound ok. let (q, n) = start_next g sound T ok in answered_none _ e q n)
 
@@ -103,6 +112,10 @@ module _ (R : Raw) (good : ∥ AcceptedFile R ∥₁) where
   pub dots_there : {q p : ℕ} {below w : List ℕ} → Held R (q ∷ p ∷ below) w → ((A : ℕ) → AfterDots g T q A → ⊥) → ⊥
   dots_there h none = of_held h ⊥_prop (λ sound ok p. let (A, dots) = after_dots_exists g sound T ok p in none A dots)
 
+  -- the window begins a word of the top
+  pub held_word : {q : ℕ} {below w : List ℕ} → Held R (q ∷ below) w → BeginsWord T q w
+  held_word {q} {w = w} h = had (dec_word T q w) (of_held h ∥∥₁_prop (λ sound ok p. ∣ placed_word g sound T ok p ∣₁))
+
   -- of a full window
   pub full_length : (w : List ℕ) → Full g w → 0 < length w
   full_length [] full = absurd (of_table ⊥_prop (λ sound ok. full_some g sound.well_formed full))
@@ -114,10 +127,10 @@ module _ (R : Raw) (good : ∥ AcceptedFile R ∥₁) where
   token_is b v h full dots t e = of_held h (ℕ_set _ _) (λ sound ok p. head_is (sym e ∙ (placed_take g sound T ok p full dots t).1))
 
   pub token_first : {q p a : ℕ} {below : List ℕ} (es : List (Entry Token)) → Held R (q ∷ p ∷ below) (symbols_of es) → Full g (symbols_of es)
-      → AfterDots g T q a → IsToken g a → ((t : Token) (fs : List (Entry Token)) → es ≡ Given t ∷ fs → ⊥) → ⊥
-  token_first [] h full dots t none = omega (arith, full_length [] full)
-  token_first (Given b ∷ es) h full dots t none = none b es refl
-  token_first (End p ∷ es) h full dots t none = omega (arith, token_is end_mark (symbols_of es) h full dots t refl, t.1, few_tokens)
+      → AfterDots g T q a → IsToken g a → (t : Token) × ((fs : List (Entry Token)) × (es ≡ Given t ∷ fs))
+  token_first [] h full dots t = absurd (omega (arith, full_length [] full))
+  token_first (Given b ∷ es) h full dots t = (b, (es, refl))
+  token_first (End p ∷ es) h full dots t = absurd (omega (arith, token_is end_mark (symbols_of es) h full dots t refl, t.1, few_tokens))
 
   -- where no token stands there, a rule is chosen and the states for its right side exist
   module _ {q p A : ℕ} {below w : List ℕ} (h : Held R (q ∷ p ∷ below) w) (full : Full g w) (dots : AfterDots g T q A)

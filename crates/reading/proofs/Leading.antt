@@ -1,5 +1,5 @@
 -- Where the right side of a chosen rule leads does not depend on what lies below the state that it is chosen at.
-use Rattle.std.proofs.Common.{◌≡◌, ℕ, suc, ◌≤◌, List, [], ◌∷◌, ◌++◌, length, get_or, None, refl, sym, ap, ◌∙◌, subst, subst₂, arith}
+use Rattle.std.proofs.Common.{◌≡◌, ℕ, suc, ◌≤◌, List, [], ◌∷◌, ◌++◌, length, None, refl, sym, ap, ◌∙◌, subst, subst₂, arith}
 use mathlib.Core.HLevel.{⊥_prop}
 use mathlib.Core.Logic.{∥∥₁_elim, ∥∥₁_map}
 use mathlib.Core.Option.{some}
@@ -49,24 +49,6 @@ pushed_upon T (X ∷ ω) p below s' (x, q, (b, (more, (n, e)))) =
           pushes = λ b. (z, q, (s ++ p ∷ b, (more b, (ap (λ (v : ℕ). T.next v X) (sym (head_is i)) ∙ n, refl))));
         }
 
--- the first six of a list begin with what it begins with, as far as that is no longer
-pub record Among (xs s : List ℕ) : Type 0 where
-  pub unused : List ℕ
-  pub list_is : xs ≡ s ++ unused
-
-abbrev pub six : List ℕ → List ℕ
-six xs = get_or xs 0 0 ∷ get_or xs 1 0 ∷ get_or xs 2 0 ∷ get_or xs 3 0 ∷ get_or xs 4 0 ∷ get_or xs 5 0 ∷ []
-
-pub six_begin : (s t : List ℕ) → length s ≤ 6 → Among (six (s ++ t)) s
-six_begin [] t l = record { unused = six t; list_is = refl }
-six_begin (a ∷ []) t l = record { unused = _; list_is = refl }
-six_begin (a ∷ b ∷ []) t l = record { unused = _; list_is = refl }
-six_begin (a ∷ b ∷ c ∷ []) t l = record { unused = _; list_is = refl }
-six_begin (a ∷ b ∷ c ∷ d ∷ []) t l = record { unused = _; list_is = refl }
-six_begin (a ∷ b ∷ c ∷ d ∷ e ∷ []) t l = record { unused = _; list_is = refl }
-six_begin (a ∷ b ∷ c ∷ d ∷ e ∷ f ∷ []) t l = record { unused = []; list_is = refl }
-six_begin (a ∷ b ∷ c ∷ d ∷ e ∷ f ∷ h ∷ s) t l = absurd (omega (arith, l))
-
 module _ (R : Raw) (good : ∥ AcceptedFile R ∥₁) {p A : ℕ} {y : List ℕ} (there : ∥ HasChoice R p A y ∥₁) where
   pub choice_some : answered ((table_of R).choice p A y) ≡ None → ⊥
   choice_some e = ∥∥₁_elim there ⊥_prop (λ (b, (r, (s, c))). answered_none _ e r c.choice_is)
@@ -107,18 +89,19 @@ module _ (R : Raw) (good : ∥ AcceptedFile R ∥₁) {p A : ℕ} {y : List ℕ}
       leads_there e =
           subst₂ (λ (ω s : List ℕ). ∥ Pushed (table_of R) ω s ∥₁) (sym right_is) (sym e) leads_on
 
-      -- the states that were pushed, and the first six of the stack
-      pub found : (s s' : List ℕ) (c : Course) → s ≡ p ∷ [] → Pushes (table_of R) right s s' → c.rule ≡ r → c.steps ≡ length right → c.states ≡ six s'
+      -- the states that were pushed are those above the lowest of the stack
+      pub found : (s s' : List ℕ) (c : Course) → s ≡ p ∷ [] → Pushes (table_of R) right s s' → c.rule ≡ r → c.steps ≡ length right
+          → ((upper : List ℕ) (lowest : ℕ) → length upper ≤ 8 → s' ≡ upper ++ lowest ∷ [] → (unused : List ℕ) × (c.states ≡ unused ++ upper))
           → Leads R p A y c
-      found s s' c e pushed rule_is steps_are states_are =
+      found s s' c e pushed rule_is steps_are above =
           let upon = pushed_upon (table_of R) (rule_in R r).right p [] s' (subst₂ (λ (ω t : List ℕ). Pushes (table_of R) ω t s') right_is e pushed) in
-          let front = six_begin upon.states (p ∷ []) (omega (arith, upon.many, right_few)) in
+          let (unused, states_are) = above upon.states p (omega (arith, upon.many, right_few)) upon.stack_is in
           record {
             choice_is = chosen ∙ ap (λ (n : ℕ). some n) (sym rule_is);
             few = omega (arith, steps_are, steps_few);
             states = upon.states;
-            unused = front.unused;
+            unused = unused;
             many = omega (arith, upon.many, steps_are, ap length right_is);
-            states_are = states_are ∙ ap six upon.stack_is ∙ front.list_is;
+            states_are = states_are;
             pushes = subst (λ (n : ℕ). (b : List ℕ) → Pushes (table_of R) (rule_in R n).right (p ∷ b) (upon.states ++ p ∷ b)) (sym rule_is) upon.pushes;
           }

@@ -7,6 +7,7 @@ pub mod Invariant
 pub mod Held
 pub mod Requests
 pub mod Pushing
+pub mod Blocks
 pub mod Deciding
 pub mod Remembering
 pub mod Leading

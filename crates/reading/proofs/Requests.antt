@@ -1,6 +1,6 @@
 -- A step that has let in some entries and asks for one more. That one is let in behind the others, or the step ends as the definition of a step
 -- says: the entry cannot be let in, or the source has a fault.
-use Rattle.std.proofs.Common.{◌≡◌, ℕ, ◌+◌, List, [], ◌∷◌, ◌++◌, Ok, Err, sym, ap, ap₂, ◌∙◌, subst, subst₂, append_assoc, append-nil, arith}
+use Rattle.std.proofs.Common.{◌≡◌, ℕ, ◌+◌, ◌<◌, List, [], ◌∷◌, ◌++◌, Ok, Err, OnOk, MatchResult, Result, refl, sym, ap, ap₂, ◌∙◌, subst, subst₂, append_assoc, append-nil, arith}
 use Rattle.source.specs.declared.fault.Faulted.{Faulted}
 use Rattle.source.specs.declared.token.Entry.{Entry}
 use Rattle.source.specs.declared.token.Entry.TheVariants.{Given, End}
@@ -14,6 +14,7 @@ use Rattle.table.specs.Checked.{contents}
 use Rattle.table.specs.Contents.{grammar_of, table_of}
 use Rattle.reading.specs.declared.answer.Ending.TheVariants as ending_by
 use Rattle.reading.specs.declared.answer.ReadRefusal.TheVariants.{Unfit, Source}
+use Rattle.reading.specs.declared.answer.Standing.TheVariants.{Running}
 use Rattle.reading.specs.Given.{Answer, Gave, as_answers, symbol_of, symbols_of, tokens_in, place_of}
 use Rattle.reading.specs.State.{State, filled, ended}
 use Rattle.reading.specs.Step.{Lacks, Step, refuse, fail}
@@ -21,7 +22,7 @@ use Rattle.reading.specs.declared.reading.Reading.{Reading}
 use Rattle.reading.specs.Calls.{Stepped}
 use Rattle.reading.specs.Filling.{Filling}
 use Rattle.reading.specs.Model.{model, grammar_in, table_in}
-use Rattle.reading.specs.Parts.{entries}
+use Rattle.reading.specs.Parts.{states, entries}
 use Rattle.reading.specs.Window.{Wants, CanEnter, Enter}
 use Rattle.reading.proofs.Invariant.{symbols_more}
 
@@ -54,6 +55,24 @@ module _ (g : Grammar) (T : Table) (q : ℕ) where
   enter_more w (f ∷ es) e (h, i, t) wants can =
       let same = sym (append_assoc w (symbol_of f ∷ []) (symbols_of es)) in
       (h, i, enter_more (w ++ symbol_of f ∷ []) es e t (subst (Wants g) same wants) (subst (λ (x : List ℕ). CanEnter g T q x e) same can))
+
+-- what follows where a request goes well
+pub ok_both : {T E P Q : Type 0} (A : T → Type 0) (B : E → Type 0) (r : Result T E) → ((x : T) → P → A x → Q) → OnOk r P → MatchResult r A B
+    → OnOk r Q
+ok_both A B (Ok x) f p a = f x p a
+ok_both A B (Err e) f p a = tt
+
+-- nothing is let in yet
+pub none_yet : {F : Type 0} (r : Reading F) (m : Meaning F) {q : ℕ} → (below : List ℕ) × (states r.stack ≡ q ∷ below) → r.standing ≡ Running
+    → r.moves < 1000000 → Filling r m q r m
+none_yet r m (below, top) running moves =
+    record {
+      table = refl;
+      below = below;
+      let_in = [];
+      asks = record { runs = running; moves_left = moves; stack_is = top; entered = tt; gave = refl };
+      state = filled_none (model r);
+    }
 
 module _ {F : Type 0} {r r' : Reading F} {m m' : Meaning F} {q : ℕ} (so_far : Filling r m q r' m') where
   -- by the table of r

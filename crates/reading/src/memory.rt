@@ -1,50 +1,47 @@
 //! What a reading has looked up in its table.
 
-use symbols::Word;
+use crate::stack::BLOCK;
 
-pub mod courses;
+pub mod cells;
 pub mod finding;
-pub mod fronts;
-pub mod symbols_after;
 
-/// A memory has so many cells for states with words.
-pub const FRONTS: usize = 1024;
+/// A memory has so many cells of sixteen bytes.
+pub const CELLS: usize = 1024;
 
-/// A memory has so many cells for choices.
-pub const CHOICES: usize = 256;
+/// Tokens and the end mark are lower.
+pub const SYMBOLS: usize = 32;
 
-/// The right side of a rule has at most so many symbols.
-pub const MOST_STEPS: usize = 6;
+/// States are numbered by bytes.
+pub const STATES: usize = 256;
 
-/// A state of which some word begins with these symbols. Where the first is 0, the cell is not used.
-#[derive(Clone, Copy)]
-pub struct KnownFront {
-    state: u8,
-    word: Word,
-}
-
-/// A rule, and the states that its right side leads through, the highest first.
+/// A rule, how many steps its right side has, and at the end of a block the states that it leads through, one for each step, the highest first.
 #[derive(Clone, Copy)]
 pub struct Course {
-    rule: u8,
-    steps: u8,
-    states: [u8; MOST_STEPS],
+    pub rule: u8,
+    pub steps: u8,
+    pub states: [u8; BLOCK],
 }
 
-/// The choice at a state for a nonterminal and a word. Where the first symbol of the word is 0, the cell is not used.
+/// What a move meets: the symbol after the dots of the top, which only contracts ask for, and, unless it is a token, the course of the rule that is
+/// chosen for it.
 #[derive(Clone, Copy)]
-pub struct KnownChoice {
-    below: u8,
-    symbol: u8,
-    word: Word,
-    course: Course,
+pub struct Met {
+    pub symbol: u8,
+    pub course: Option<Course>,
 }
 
-/// What has been looked up, in cells that are found by their numbers: what comes later into a cell takes the place of what was there.
+/// What was met with a state on top, another below it and a word in the window. The key is a number for the three, or 0 in a cell that is not used.
+#[derive(Clone, Copy)]
+pub struct Known {
+    key: u32,
+    met: Met,
+}
+
+/// What has been met, in cells that are found by their keys: what comes later into a cell takes the place of what was there. `fronts` has what this
+/// tells of words of one symbol, and forgets nothing.
 #[derive(Drop)]
 pub struct Memory {
-    /// The symbol after the dots of a state, or 0 while it is not known.
-    dots: [u8; 256],
-    fronts: [KnownFront; FRONTS],
-    choices: [KnownChoice; CHOICES],
+    cells: [Known; CELLS],
+    /// By state and symbol: whether it is known that some word of the state begins with the symbol.
+    fronts: [bool; STATES * SYMBOLS],
 }

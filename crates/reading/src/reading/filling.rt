@@ -1,5 +1,5 @@
 //! Filling the window of a reading.
-ghost use Rattle.std.specs.Prelude.{◌≡◌, ◌<◌, ◌≤◌, ◌++◌, [], ◌∷◌, ℕ, List, length, MatchResult, OnOk, Decides, Ok, Err};
+ghost use Rattle.std.specs.Prelude.{◌≡◌, ◌<◌, ◌≤◌, ◌++◌, [], ◌∷◌, ℕ, List, length, MatchResult, OnOk, Decides, MatchBool, Ok, Err};
 ghost use Rattle.source.specs.declared.fault.Faulted.{Faulted};
 ghost use Rattle.source.specs.Meaning.{Meaning, answer, rest};
 ghost use Rattle.grammar.specs.Grammar.{IsToken};
@@ -9,7 +9,7 @@ ghost use Rattle.reading.specs.declared.answer.Standing.TheVariants.{Running};
 ghost use Rattle.reading.specs.declared.reading.Reading.{Reading};
 ghost use Rattle.reading.specs.Calls.{Stepped};
 ghost use Rattle.reading.specs.Filling.{Enters, Filling};
-ghost use Rattle.reading.specs.Given.{symbol_of, symbols_of, place_of};
+ghost use Rattle.reading.specs.Given.{symbol_of, symbols_of};
 ghost use Rattle.reading.specs.Model.{model, grammar_in, table_in};
 ghost use Rattle.reading.specs.Parts.{states, entries};
 ghost use Rattle.reading.specs.State.{filled};
@@ -17,19 +17,11 @@ ghost use Rattle.reading.specs.Window.{Wants, Full, CanEnter};
 
 use super::Reading;
 use crate::answer::{Ending, ReadRefusal};
-use source::{Entry, Place, Source, Token};
-
-// The place of an entry.
-fn place_of(entry: Entry<Token>) -> Place
-    ensures { result ≡ place_of entry }
-{
-    match entry {
-        Entry::Given(token) => token.place,
-        Entry::End(place) => place,
-    }
-}
+use crate::window::entries::place_of;
+use source::{Entry, Source, Token};
 
 // Asks a source for an entry. Its fault is lifted into the reading's refusal.
+#[inline(always)]
 fn ask<S: Source>(source: &mut S) -> Result<Entry<Token>, ReadRefusal<S::Fault>>
     ensures asks { S.Source.meaning source.new ≡ rest (S.Source.meaning source.old) }
     ensures gives { MatchResult result
@@ -41,6 +33,7 @@ fn ask<S: Source>(source: &mut S) -> Result<Entry<Token>, ReadRefusal<S::Fault>>
 
 impl<F> Reading<'_, F> {
     // Whether a symbol is one of the grammar's tokens.
+    #[inline(always)]
     pub(super) fn is_token(&self, symbol: u8) -> bool
         ensures { Decides result (IsToken (grammar_in self.now) symbol) }
     {
@@ -49,23 +42,21 @@ impl<F> Reading<'_, F> {
 
     // Whether some word of a state begins with the window and an entry behind it.
     #[inline(always)]
-    fn begins(&mut self, state: u8, entry: Entry<Token>) -> bool
-        requires wants { Wants (grammar_in self.old) (symbols_of (entries self.old.window)) }
+    fn begins(&self, state: u8, entry: Entry<Token>) -> bool
+        requires wants { Wants (grammar_in self.now) (symbols_of (entries self.now.window)) }
         requires some { 1 ≤ symbol_of entry }
-        ensures table { self.new.table ≡ self.old.table }
-        ensures state { model self.new ≡ model self.old }
-        ensures begins { Decides result (BeginsWord (table_in self.old) state (symbols_of (entries self.old.window) ++ symbol_of entry ∷ [])) }
+        requires symbol { symbol_of entry < 32 }
+        ensures { Decides result (BeginsWord (table_in self.now) state (symbols_of (entries self.now.window) ++ symbol_of entry ∷ [])) }
     {
         let word = self.window.word_with(entry);
         self.begins_word(state, word)
     }
 
     // Whether an entry can be let in with this state on top.
-    fn can_enter(&mut self, top: u8, entry: Entry<Token>) -> bool
-        requires { Wants (grammar_in self.old) (symbols_of (entries self.old.window)) }
-        ensures table { self.new.table ≡ self.old.table }
-        ensures state { model self.new ≡ model self.old }
-        ensures can { Decides result (CanEnter (grammar_in self.old) (table_in self.old) top (symbols_of (entries self.old.window)) entry) }
+    #[inline(always)]
+    fn can_enter(&self, top: u8, entry: Entry<Token>) -> bool
+        requires { Wants (grammar_in self.now) (symbols_of (entries self.now.window)) }
+        ensures { Decides result (CanEnter (grammar_in self.now) (table_in self.now) top (symbols_of (entries self.now.window)) entry) }
     {
         match entry {
             Entry::Given(token) => self.is_token(token.kind) && self.begins(top, entry),
@@ -73,7 +64,17 @@ impl<F> Reading<'_, F> {
         }
     }
 
+    // Whether an entry is wanted: otherwise the window is full.
+    #[inline(always)]
+    fn wants(&self) -> bool
+        ensures { MatchBool result (Wants (grammar_in self.now) (symbols_of (entries self.now.window)))
+            (Full (grammar_in self.now) (symbols_of (entries self.now.window))) }
+    {
+        self.window.wants(self.table.header().k)
+    }
+
     // Lets in an entry that can be.
+    #[inline(always)]
     fn let_in(&mut self, entry: Entry<Token>)
         requires wants { Wants (grammar_in self.old) (symbols_of (entries self.old.window)) }
         requires enters { Enters self.old entry }
@@ -131,7 +132,14 @@ impl<F> Reading<'_, F> {
             (λ _. Filling self.old (S.Source.meaning source.old) top self.new (S.Source.meaning source.new))
             (λ e. Stepped self.old (S.Source.meaning source.old) (Err e) self.new (S.Source.meaning source.new)) }
     {
-        while self.window.wants(self.table.header().k) {
+        // with one symbol of lookahead one entry is enough, and needs no loop
+        if self.table.header().k == 1 {
+            if self.wants() {
+                return self.request(source, top);
+            }
+            return Ok(());
+        }
+        while self.wants() {
             self.request(source, top)?;
         }
         Ok(())

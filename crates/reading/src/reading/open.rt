@@ -21,11 +21,12 @@ impl<'a, F> Reading<'a, F> {
         };
         let mut stack = Stack::new(0);
         stack.push(top);
+        let window = Window::new();
         Reading {
             table,
             memory: Memory::new(),
             stack,
-            window: Window::Empty,
+            window,
             tokens: 0,
             rules: 0,
             moves: 0,

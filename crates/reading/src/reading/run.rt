@@ -26,6 +26,7 @@ fn write_rule(list: &mut [u8], rules: u32, made: Move) -> u32
 
 impl<F> Reading<'_, F> {
     // Makes at most n moves, and writes their rules.
+    #[inline(never)]
     fn make_moves<S: Source<Fault = F>>(
         &mut self,
         source: &mut S,

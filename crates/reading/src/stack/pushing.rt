@@ -1,5 +1,5 @@
 //! Putting the states for a right side on a stack.
-ghost use Rattle.std.specs.Prelude.{◌≡◌, ◌+◌, ◌≤◌, ◌++◌, List, ℕ, length};
+ghost use Rattle.std.specs.Prelude.{◌+◌, ◌≤◌, List, ℕ, length};
 ghost use Rattle.table.specs.Checked.{contents};
 ghost use Rattle.table.specs.Contents.{table_of};
 ghost use Rattle.reading.specs.Parts.{states};
@@ -23,16 +23,6 @@ impl Stack {
                 unreachable!()
             };
             self.push(next);
-        }
-    }
-
-    /// Puts states on, the last of them first.
-    pub fn push_all(&mut self, upper: &[u8])
-        requires { length (states self.old) + length upper.now ≤ 256 }
-        ensures { states self.new ≡ upper.now ++ states self.old }
-    {
-        for state in upper.iter().rev() {
-            self.push(*state);
         }
     }
 }

@@ -1,19 +1,19 @@
 //! The states of a stack.
-ghost use Rattle.std.specs.Prelude.{◌≡◌, ◌<◌, [], ◌∷◌, length, drop};
+ghost use Rattle.std.specs.Prelude.{◌≡◌, ◌<◌, [], ◌∷◌, length, drop, slice_index};
 ghost use Rattle.reading.specs.Parts.{states};
 
-use super::{MOST_STATES, Stack};
+use super::{BLOCK, MOST_STATES, Stack};
 
 impl Stack {
     /// A stack of one state.
     pub fn new(bottom: u8) -> Stack
         ensures { states result ≡ bottom ∷ [] }
     {
-        let mut cells = [0; MOST_STATES];
-        cells[MOST_STATES - 1] = bottom;
+        let mut cells = [0; MOST_STATES + BLOCK];
+        cells[MOST_STATES + BLOCK - 1] = bottom;
         Stack {
             cells,
-            top: MOST_STATES - 1,
+            top: MOST_STATES + BLOCK - 1,
         }
     }
 
@@ -22,6 +22,17 @@ impl Stack {
         ensures { result.now ≡ states self.now }
     {
         &self.cells[self.top..]
+    }
+
+    /// The state below the top, or 0 where there is none.
+    #[inline(always)]
+    pub fn second(&self) -> u8
+        ensures { result ≡ slice_index (states self.now) 1 }
+    {
+        match self.states() {
+            &[_, second, ..] => second,
+            _ => 0,
+        }
     }
 
     /// Puts a state on top.

@@ -2,7 +2,7 @@ use Rattle.std.proofs.Common.{length, refl, sym, ap, ◌∙◌, arith}
 use Rattle.table.specs.Checked.{contents}
 use Rattle.table.proofs.Defining.{answered_some}
 use Rattle.reading.specs.Parts.{states}
-use Rattle.reading.proofs.Leading.{six, choice_some, steps_few, leads_there, found}
+use Rattle.reading.proofs.Leading.{choice_some, steps_few, leads_there, found}
 use Rattle.reading.proofs.memory.Course.find.Goals as goal
 
 pub unreachable-requires : goal.unreachable-requires
@@ -31,4 +31,4 @@ returns c =
     let t = c.args.table in
     let chosen = answered_some _ c.in-Some.rule (sym c.choice.ensures ∙ c.in-Some.is) in
     found (contents t) t.good c.requires c.in-Some.rule chosen c.right_side-right.ensures _ (states c.push_along.new.self) _ c.new-stack.ensures c.push_along.ensures refl refl
-    (c.first_of.ensures ∙ ap six c.states.ensures)
+    c.above_lowest.ensures

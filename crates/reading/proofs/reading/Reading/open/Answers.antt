@@ -1,7 +1,8 @@
-use Rattle.std.proofs.Common.{◌≡◌, List, [], ◌∷◌, refl, sym, ap, ◌∙◌, subst}
+use Rattle.std.proofs.Common.{◌≡◌, List, [], ◌∷◌, refl, sym, ap, ap₂, ◌∙◌, subst₂}
 use Rattle.table.specs.Checked.{contents}
 use Rattle.table.proofs.Defining.{answered_some}
 use Rattle.reading.specs.declared.answer.Standing.TheVariants.{Running}
+use Rattle.reading.specs.Given.{symbols_of}
 use Rattle.reading.specs.Parts.{states}
 use Rattle.reading.proofs.Held.{Held, start_there, held_opening}
 use Rattle.reading.proofs.reading.Reading.open.Goals as goal
@@ -14,7 +15,7 @@ invariant_of-result-clause-placed g c =
     let R = contents c.args.table in
     let stack : states c.push.new.self ≡ c.in-Some.top ∷ 0 ∷ [] = cc in
     let next = answered_some _ c.in-Some.top (sym c.successor.ensures ∙ c.in-Some.is) in
-    subst (λ (s : List _). Held R s []) (sym stack) (held_opening R c.args.table.good next)
+    subst₂ (Held R) (sym stack) (sym (ap symbols_of c.new-window.ensures)) (held_opening R c.args.table.good next)
 
 pub returns : goal.returns
 returns g c =
@@ -23,7 +24,8 @@ returns g c =
       table = refl;
       top = c.in-Some.top;
       next = answered_some _ c.in-Some.top (sym c.successor.ensures ∙ c.in-Some.is);
-      state = ap (λ (s : List _). record { stack = s; window = []; tokens = 0; rules = 0; moves = 0; standing = Running }) stack;
+      state = ap₂ (λ (s : List _) (w : List _). record { stack = s; window = w; tokens = 0; rules = 0; moves = 0; standing = Running }) stack
+          c.new-window.ensures;
     }
 
 pub invariant_of-result-clause-remembers : goal.invariant_of-result-clause-remembers

@@ -1,11 +1,7 @@
 use Rattle.std.proofs.Common.{Err, sym, subst, ◌∙◌}
 use Rattle.std.proofs.lemmas.Bool.{true≢false}
-use Rattle.table.specs.Contents.{grammar_of, table_of}
 use Rattle.reading.specs.declared.answer.ReadRefusal.{ReadRefusal}
 use Rattle.reading.specs.Calls.{Stepped}
-use Rattle.reading.specs.Given.{symbols_of}
-use Rattle.reading.specs.Window.{Wants, CanEnter}
-use Rattle.reading.proofs.Moved.{moved, same_filling}
 use Rattle.reading.proofs.Requests.{fills_more, refuses, fails}
 use Rattle.reading.proofs.reading.Reading.request.Goals as goal
 
@@ -18,27 +14,13 @@ returns-in-Err-clause-fills g c =
 
 pub returns-then-not-can_enter-clause-fills : goal.returns-then-not-can_enter-clause-fills
 returns-then-not-can_enter-clause-fills g c =
-    let r' = c.can_enter.new.self in
-    let table = c.can_enter.ensures.table in
-    let state = c.can_enter.ensures.state in
     λ r m so_far.
-    refuses (same_filling c.args.self.now r' table state so_far)
-    (moved c.args.self.now r' table state (λ R s. Wants (grammar_of R) (symbols_of s.window)) c.requires.wants)
-    c.end-then-not-can_enter.new.self c.end-then-not-can_enter.ensures.table c.ask.ensures.asks (sym c.in-Ok.ensures.gives)
-    (moved c.args.self.now r' table state
-    (λ R s. CanEnter (grammar_of R) (table_of R) c.args.top (symbols_of s.window) c.in-Ok.entry → ⊥)
-    (λ can. true≢false (sym (c.can_enter.ensures.can.1 can) ∙ c.if-not-can_enter.true)))
-    c.place_of.ensures c.end-then-not-can_enter.ensures.state
+    refuses so_far c.requires.wants c.end-then-not-can_enter.new.self c.end-then-not-can_enter.ensures.table c.ask.ensures.asks
+    (sym c.in-Ok.ensures.gives) (λ can. true≢false (sym (c.can_enter.ensures.1 can) ∙ c.if-not-can_enter.true)) c.place_of.ensures
+    c.end-then-not-can_enter.ensures.state
 
 pub returns-clause-fills : goal.returns-clause-fills
 returns-clause-fills g c =
-    let r' = c.can_enter.new.self in
-    let table = c.can_enter.ensures.table in
-    let state = c.can_enter.ensures.state in
     λ r m so_far.
-    fills_more (same_filling c.args.self.now r' table state so_far)
-    (moved c.args.self.now r' table state (λ R s. Wants (grammar_of R) (symbols_of s.window)) c.requires.wants)
-    c.let_in.new.self c.let_in.ensures.table c.ask.ensures.asks (sym c.in-Ok.ensures.gives)
-    (moved c.args.self.now r' table state (λ R s. CanEnter (grammar_of R) (table_of R) c.args.top (symbols_of s.window) c.in-Ok.entry)
-    (c.can_enter.ensures.can.0 c.if-not-can_enter.false))
-    c.let_in.ensures.state
+    fills_more so_far c.requires.wants c.let_in.new.self c.let_in.ensures.table c.ask.ensures.asks (sym c.in-Ok.ensures.gives)
+    (c.can_enter.ensures.0 c.if-not-can_enter.false) c.let_in.ensures.state
