@@ -2,7 +2,7 @@
 //! or why the table or the sheet is refused.
 #![tactic(auto)]
 
-ghost use Rattle.std.specs.Prelude.{length, OnOk};
+ghost use Rattle.std.specs.Prelude.{◌≤◌, length, OnOk};
 ghost use Rattle.load.specs.Loading.{loaded};
 ghost use Rattle.read_sheet.specs.Printing.{Prints};
 
@@ -14,7 +14,7 @@ use std::{env, fs, io};
 use table::checked;
 use transcript::transcribe_sheet;
 
-/// Admits the table of a text into this memory, and reads a sheet by it.
+/// Admits the table of a text into this memory, which has room for every table, and reads a sheet by it.
 fn read_by_text<W: Write>(
     text: &[u8],
     sheet: &[u8],
@@ -22,6 +22,8 @@ fn read_by_text<W: Write>(
     starts: &mut [usize],
     out: &mut W,
 ) -> io::Result<()>
+    requires bytes { 524288 ≤ length store.old }
+    requires frames { 861 ≤ length starts.old }
     ensures { OnOk result (Prints (loaded (length store.old) (length starts.old) text.now) store.new starts.new sheet.now
         (W.Write.contents out.old) (W.Write.contents out.new)) }
 {

@@ -4,6 +4,8 @@
 //! bytes.
 #![tactic(auto)]
 
+ghost use Rattle.std.specs.Prelude.{◌≤◌, length};
+
 use admission::{MOST_FRAMES, STORE_BYTES, admit};
 use anyhow::{Context, ensure};
 use batches::Cases;
@@ -74,14 +76,18 @@ fn write_group<W: Write>(
     Ok(())
 }
 
-/// Writes the lines of all groups of a batch.
+/// Writes the lines of all groups of a batch. The memory has room for every table: for half as many bytes as a text may have, and for the starts
+/// of 861 frames.
 fn write_groups<W: Write>(
     batch: &[u8],
     store: &mut [u8],
     starts: &mut [usize],
     rules: &mut [u8],
     out: &mut W,
-) -> anyhow::Result<()> {
+) -> anyhow::Result<()>
+    requires bytes { 524288 ≤ length store.old }
+    requires frames { 861 ≤ length starts.old }
+{
     let groups = Cases {
         batch,
         mark: MARK,

@@ -3,6 +3,8 @@
 //! Each case of the batch is a batch of its own: a table file, and sheets. A case comes behind a line with the decimal number of its bytes.
 #![tactic(auto)]
 
+ghost use Rattle.std.specs.Prelude.{◌≤◌, length};
+
 use admission::{MOST_FRAMES, STORE_BYTES, admit};
 use anyhow::{Context, ensure};
 use batches::Cases;
@@ -45,13 +47,17 @@ fn write_group<W: Write>(
     Ok(())
 }
 
-/// Writes the transcripts of all groups of a batch.
+/// Writes the transcripts of all groups of a batch. The memory has room for every table: for half as many bytes as a text may have, and for the
+/// starts of 861 frames.
 fn write_groups<W: Write>(
     batch: &[u8],
     store: &mut [u8],
     starts: &mut [usize],
     out: &mut W,
-) -> anyhow::Result<()> {
+) -> anyhow::Result<()>
+    requires bytes { 524288 ≤ length store.old }
+    requires frames { 861 ≤ length starts.old }
+{
     let groups = Cases {
         batch,
         mark: MARK,

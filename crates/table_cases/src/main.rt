@@ -4,11 +4,37 @@
 //! A table file comes behind a line with the decimal number of its bytes.
 #![tactic(auto)]
 
+ghost use Rattle.std.specs.Prelude.{◌≤◌, length};
+
 use admission::{Line, MOST_FRAMES, STORE_BYTES, admit};
 use anyhow::{Context, ensure};
 use batches::Cases;
-use std::env;
-use std::io::Read;
+use std::io::{BufWriter, Read, Write};
+use std::{env, io};
+
+/// Writes a line for each table file of a batch. The memory has room for every table: for half as many bytes as a text may have, and for the starts
+/// of 861 frames.
+fn write_lines<W: Write>(
+    batch: &[u8],
+    store: &mut [u8],
+    starts: &mut [usize],
+    out: &mut W,
+) -> anyhow::Result<()>
+    requires bytes { 524288 ≤ length store.old }
+    requires frames { 861 ≤ length starts.old }
+{
+    let texts = Cases {
+        batch,
+        mark: b'\n',
+        closing: b"",
+    };
+    for (number, text) in (1u32..).zip(texts) {
+        let text = text.context(format_args!("case {number} of the batch"))?;
+        let outcome = admit(text, store, starts);
+        writeln!(out, "{}", Line { outcome }).context("a line cannot be written")?;
+    }
+    Ok(())
+}
 
 fn main(rt: HostRuntime) -> anyhow::Result<()> {
     let arguments = env::args(&rt).context("the arguments cannot be read")?;
@@ -23,16 +49,9 @@ fn main(rt: HostRuntime) -> anyhow::Result<()> {
     ensure!(!input.is_empty(), "the batch on standard input is empty");
     let mut store = vec![in rt.alloc(); 0u8; STORE_BYTES]?;
     let mut starts = vec![in rt.alloc(); 0usize; MOST_FRAMES]?;
-    let texts = Cases {
-        batch: &input,
-        mark: b'\n',
-        closing: b"",
-    };
-    for (number, text) in (1u32..).zip(texts) {
-        let text = text.context(format_args!("case {number} of the batch"))?;
-        let outcome = admit(text, &mut store, &mut starts);
-        rt.println(Line { outcome })
-            .context("standard output cannot be written")?;
-    }
-    Ok(())
+    let mut out = BufWriter::new(rt.alloc(), io::writer(&rt))?;
+    // what is written before a broken case is printed too
+    let written = write_lines(&input, &mut store, &mut starts, &mut out);
+    out.flush().context("standard output cannot be written")?;
+    written
 }
