@@ -12,8 +12,9 @@ import sys
 
 FUNCTION = re.compile(r"[0-9a-f]+ <(.*)>:$")
 INSTRUCTION = re.compile(r" *([0-9a-f]+):\t(\S+) *(.*)$")
-CALLEE = re.compile(r"\t+[0-9a-f]+: R_X86_64_(?:PLT|PC)32\t(?:\.text\.)?(.*)-0x4$")
+CALLEE = re.compile(r"\t+[0-9a-f]+: R_X86_64_(?:PLT|PC)32\t(?:\.text\.(?:unlikely\.)?)?(.*)-0x4$")
 STEP = re.compile(r"\$(0x[0-9a-f]+),%rsp$")
+LIMIT = re.compile(r"\$(0x[0-9a-f]+),%r11$")
 BELOW = re.compile(r"-(0x[0-9a-f]+)\(%rsp([,)])")
 WORD = 8
 RED_ZONE = 128
@@ -52,7 +53,19 @@ def disassembled(library):
             last = instructions[int(found[1], 16)] = Instruction(found[2], found[3])
         elif (found := CALLEE.match(line)) and (last.name == "call" or last.name.startswith("j")):
             last.callee = found[1]
+    for instructions in functions.values():
+        join_probes(list(instructions.values()))
     return functions
+
+
+def join_probes(instructions):
+    """A large frame is taken a page at a time, in a loop of six instructions that ends where %r11 points: it becomes one step."""
+    for start, limit, step, _, _, jump in zip(*(instructions[i:] for i in range(6))):
+        whole = LIMIT.match(limit.operands)
+        if (start.name, start.operands) == ("mov", "%rsp,%r11") and limit.name == "sub" and whole:
+            if jump.name != "jne" or not step.operands.endswith(",%rsp"):
+                sys.exit("the stack pointer is computed: by %r11")
+            step.operands, jump.name = f"${whole[1]},%rsp", "nop"
 
 
 def followers(instruction, behind):
