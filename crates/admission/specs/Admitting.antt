@@ -1,5 +1,5 @@
 -- What is admitted, by what was loaded.
-use Rattle.std.specs.Prelude.{◌≡◌, ℕ, List, [], ◌∷◌, ◌++◌, Ok, Err, Result}
+use Rattle.std.specs.Prelude.{◌≡◌, ℕ, ◌≤◌, List, [], ◌∷◌, ◌++◌, length, Ok, Err, Result}
 use Rattle.load.specs.Loading.{numbers}
 use Rattle.load.specs.declared.fault.LoadRefusal.{LoadRefusal}
 use Rattle.load.specs.declared.loading.Loaded.{Loaded}
@@ -9,6 +9,10 @@ use Rattle.admission.specs.Texts.{outcome_text}
 use Rattle.admission.specs.declared.outcome.Accepted.{Accepted}
 use Rattle.admission.specs.declared.outcome.Refused.{Refused}
 use Rattle.admission.specs.declared.outcome.Refused.TheVariants.{NotLoaded, NotAccepted}
+
+-- Memory with room for every table: half as many bytes as the longest text has, and the starts of as many frames as a table has at most.
+abbrev pub HasRoom : List ℕ → List ℕ → Type 0
+HasRoom store starts = (524288 ≤ length store) × (861 ≤ length starts)
 
 -- The table file in these two memories.
 abbrev pub file : List ℕ → List ℕ → Loaded → Raw

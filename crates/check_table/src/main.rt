@@ -1,9 +1,9 @@
 //! Checks the table file on standard input: prints its numbers, or why it is refused.
 #![tactic(auto)]
 
-ghost use Rattle.std.specs.Prelude.{◌≡◌, ◌≤◌, length, IfOk, string_bytes};
+ghost use Rattle.std.specs.Prelude.{◌≡◌, length, IfOk, string_bytes};
 ghost use Rattle.load.specs.Loading.{loaded};
-ghost use Rattle.admission.specs.Admitting.{Tells};
+ghost use Rattle.admission.specs.Admitting.{HasRoom, Tells};
 
 use admission::{Line, MOST_FRAMES, STORE_BYTES, admit};
 use anyhow::{Context, ensure};
@@ -11,16 +11,14 @@ use std::alloc::{AllocError, Global};
 use std::env;
 use std::io::Read;
 
-/// The line that is printed of a table file, which is loaded into this memory. It has room for every table: for half as many bytes as a text may
-/// have, and for the starts of 861 frames.
+/// The line that is printed of a table file, which is loaded into this memory. It has room for every table.
 fn line_of(
     heap: Global,
     text: &[u8],
     store: &mut [u8],
     starts: &mut [usize],
 ) -> Result<String, AllocError>
-    requires bytes { 524288 ≤ length store.old }
-    requires frames { 861 ≤ length starts.old }
+    requires room { HasRoom store.old starts.old }
     ensures { IfOk result (λ line. Tells (loaded (length store.old) (length starts.old) text.now) store.new starts.new (string_bytes line)) }
 {
     let line = Line {

@@ -2,9 +2,10 @@
 //! or why the table or the sheet is refused.
 #![tactic(auto)]
 
-ghost use Rattle.std.specs.Prelude.{◌≤◌, length, OnOk};
+ghost use Rattle.std.specs.Prelude.{length, OnOk};
 ghost use Rattle.load.specs.Loading.{loaded};
 ghost use Rattle.read_sheet.specs.Printing.{Prints};
+ghost use Rattle.admission.specs.Admitting.{HasRoom};
 
 use admission::{MOST_FRAMES, STORE_BYTES, admit};
 use anyhow::{Context, bail};
@@ -22,8 +23,7 @@ fn read_by_text<W: Write>(
     starts: &mut [usize],
     out: &mut W,
 ) -> io::Result<()>
-    requires bytes { 524288 ≤ length store.old }
-    requires frames { 861 ≤ length starts.old }
+    requires room { HasRoom store.old starts.old }
     ensures { OnOk result (Prints (loaded (length store.old) (length starts.old) text.now) store.new starts.new sheet.now
         (W.Write.contents out.old) (W.Write.contents out.new)) }
 {

@@ -4,7 +4,7 @@
 //! bytes.
 #![tactic(auto)]
 
-ghost use Rattle.std.specs.Prelude.{◌≤◌, length};
+ghost use Rattle.admission.specs.Admitting.{HasRoom};
 
 use admission::{MOST_FRAMES, STORE_BYTES, admit};
 use anyhow::{Context, ensure};
@@ -76,8 +76,7 @@ fn write_group<W: Write>(
     Ok(())
 }
 
-/// Writes the lines of all groups of a batch. The memory has room for every table: for half as many bytes as a text may have, and for the starts
-/// of 861 frames.
+/// Writes the lines of all groups of a batch. The memory has room for every table.
 fn write_groups<W: Write>(
     batch: &[u8],
     store: &mut [u8],
@@ -85,8 +84,7 @@ fn write_groups<W: Write>(
     rules: &mut [u8],
     out: &mut W,
 ) -> anyhow::Result<()>
-    requires bytes { 524288 ≤ length store.old }
-    requires frames { 861 ≤ length starts.old }
+    requires room { HasRoom store.old starts.old }
 {
     let groups = Cases {
         batch,

@@ -3,7 +3,7 @@
 //! Each case of the batch is a batch of its own: a table file, and sheets. A case comes behind a line with the decimal number of its bytes.
 #![tactic(auto)]
 
-ghost use Rattle.std.specs.Prelude.{◌≤◌, length};
+ghost use Rattle.admission.specs.Admitting.{HasRoom};
 
 use admission::{MOST_FRAMES, STORE_BYTES, admit};
 use anyhow::{Context, ensure};
@@ -47,16 +47,14 @@ fn write_group<W: Write>(
     Ok(())
 }
 
-/// Writes the transcripts of all groups of a batch. The memory has room for every table: for half as many bytes as a text may have, and for the
-/// starts of 861 frames.
+/// Writes the transcripts of all groups of a batch. The memory has room for every table.
 fn write_groups<W: Write>(
     batch: &[u8],
     store: &mut [u8],
     starts: &mut [usize],
     out: &mut W,
 ) -> anyhow::Result<()>
-    requires bytes { 524288 ≤ length store.old }
-    requires frames { 861 ≤ length starts.old }
+    requires room { HasRoom store.old starts.old }
 {
     let groups = Cases {
         batch,

@@ -4,7 +4,7 @@
 //! A table file comes behind a line with the decimal number of its bytes.
 #![tactic(auto)]
 
-ghost use Rattle.std.specs.Prelude.{◌≤◌, length};
+ghost use Rattle.admission.specs.Admitting.{HasRoom};
 
 use admission::{Line, MOST_FRAMES, STORE_BYTES, admit};
 use anyhow::{Context, ensure};
@@ -12,16 +12,14 @@ use batches::Cases;
 use std::io::{BufWriter, Read, Write};
 use std::{env, io};
 
-/// Writes a line for each table file of a batch. The memory has room for every table: for half as many bytes as a text may have, and for the starts
-/// of 861 frames.
+/// Writes a line for each table file of a batch. The memory has room for every table.
 fn write_lines<W: Write>(
     batch: &[u8],
     store: &mut [u8],
     starts: &mut [usize],
     out: &mut W,
 ) -> anyhow::Result<()>
-    requires bytes { 524288 ≤ length store.old }
-    requires frames { 861 ≤ length starts.old }
+    requires room { HasRoom store.old starts.old }
 {
     let texts = Cases {
         batch,
