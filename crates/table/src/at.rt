@@ -1,4 +1,4 @@
-//! A table that is judged, and the states at which it is.
+//! A state at which a table is judged.
 ghost use Rattle.std.specs.Prelude.{◌≡◌, ◌<◌};
 ghost use Rattle.frames.specs.Raw.{header_of};
 ghost use Rattle.frames.specs.Views.{raw};
@@ -6,14 +6,11 @@ ghost use Rattle.words.specs.Codes.{cut};
 
 use crate::draft::Draft;
 
-/// A table whose words are cut to K.
-#[derive(Clone, Copy)]
-pub struct Judge<'a, const K: usize> {
-    pub draft: &'a Draft<'a>,
-    ghost cut_is: { (header_of (raw draft.now.frames)).k ≡ cut K },
-}
+mod defined;
+mod reading;
+mod rows;
 
-/// A state of such a table.
+/// A state of a table whose words are cut to K.
 #[derive(Clone, Copy)]
 pub struct At<'a, const K: usize> {
     pub draft: &'a Draft<'a>,

@@ -2,15 +2,14 @@
 #![tactic(auto)]
 
 mod at;
-mod defined;
 mod draft;
 mod fits;
+mod judge;
 mod judging;
 mod lookup;
 mod lowest;
 mod passed;
 mod refused;
-mod rows;
 mod search;
 mod sound;
 mod state;

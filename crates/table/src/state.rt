@@ -2,8 +2,6 @@
 use items::Places;
 use words::Words;
 
-pub mod reading;
-
 /// A state: its kernel places and its lookahead words.
 #[derive(Clone, Copy, PartialEq, Eq)]
 pub struct State<const K: usize> {
