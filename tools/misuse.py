@@ -54,14 +54,15 @@ class Checks:
         self.runs = 0
         self.failures = 0
 
-    def run(self, name, arguments=(), given=b"", printed=b"", said="", out=subprocess.PIPE):
-        """Runs a program on bytes or an open file, and compares. Its status has to be 1 just where it says something."""
+    def run(self, name, arguments=(), given=b"", printed=b"", said="", out=subprocess.PIPE, called=None):
+        """Runs a program on bytes or an open file, and compares. Its status has to be 1 just where it says something. It may be called
+        by another name than its own."""
         program = ROOT / "crates" / name / "out" / name
         if not program.exists():
             sys.exit(f"{program} is not built: rt run < stdin in crates/{name} builds it")
-        words = [str(program), *arguments]
+        words = [called or str(program), *arguments]
         stdin = {"input": given} if isinstance(given, bytes) else {"stdin": given}
-        done = subprocess.run(words, stdout=out, stderr=subprocess.PIPE, cwd=self.folder, timeout=60, **stdin)
+        done = subprocess.run(words, executable=program, stdout=out, stderr=subprocess.PIPE, cwd=self.folder, timeout=60, **stdin)
         got = (done.returncode, done.stdout or b"", done.stderr.decode())
         wanted = (1 if said else 0, printed, said)
         self.runs += 1
@@ -77,6 +78,20 @@ def check_arguments(checks):
         checks.run(name, [b"\xff"], said=error("the arguments cannot be read", "invalid data"))
     for arguments in ([], [str(TABLE), "more"]):
         checks.run("read_sheet", arguments, said=error(ONE_ARGUMENT))
+
+
+def check_names(checks):
+    """A program that is called by a name that is no text does its work."""
+    table = framed(SMALL_TABLE)
+    for name, given, printed in (
+        ("list_tokens", b"", b"end 1:1\n"),
+        ("check_table", SMALL_TABLE, ACCEPTED),
+        ("sheet_cases", b"0:,\n", b"case 1\nend 1:1\n"),
+        ("table_cases", table, ACCEPTED),
+        ("reading_cases", framed(table), b""),
+        ("sheet_readings", framed(table), b""),
+    ):
+        checks.run(name, given=given, printed=printed, called=b"\xff")
 
 
 def check_files(checks):
@@ -150,7 +165,7 @@ def check_groups(checks):
 def main():
     with tempfile.TemporaryDirectory() as folder:
         checks = Checks(folder)
-        for check in (check_arguments, check_files, check_contents, check_batches, check_groups):
+        for check in (check_arguments, check_names, check_files, check_contents, check_batches, check_groups):
             check(checks)
     print(f"{checks.runs} runs, {checks.failures} not as expected")
     sys.exit(1 if checks.failures else 0)

@@ -6,9 +6,9 @@ ghost use Rattle.load.specs.Loading.{loaded};
 ghost use Rattle.admission.specs.Admitting.{HasRoom, Tells};
 
 use admission::{Line, MOST_FRAMES, STORE_BYTES, admit};
-use anyhow::{Context, ensure};
+use anyhow::{Context, bail};
 use std::alloc::{AllocError, Global};
-use std::env;
+use std::env::{self, Env, FillError};
 use std::io::Read;
 
 /// The line that is printed of a table file, which is loaded into this memory. It has room for every table.
@@ -28,11 +28,11 @@ fn line_of(
 }
 
 fn main(rt: HostRuntime) -> anyhow::Result<()> {
-    let arguments = env::args(&rt).context("the arguments cannot be read")?;
-    ensure!(
-        arguments.count() <= 1,
-        "no argument is wanted: check_table < TABLE"
-    );
+    // only an argument has to be text, and not the program's own name
+    if !matches!(rt.arg(1, &mut []), Err(FillError::NotPresent)) {
+        env::args(&rt).context("the arguments cannot be read")?;
+        bail!("no argument is wanted: check_table < TABLE");
+    }
     let mut text = Vec::new(rt.alloc());
     rt.stdin()
         .read_to_end(&mut text)

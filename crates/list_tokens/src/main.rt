@@ -4,10 +4,10 @@
 ghost use Rattle.std.specs.Prelude.{◌≡◌, IfOk, string_bytes};
 ghost use Rattle.listing.specs.Listings.{sheet_listing};
 
-use anyhow::{Context, ensure};
+use anyhow::{Context, bail};
 use listing::Listing;
 use std::alloc::{AllocError, Global};
-use std::env;
+use std::env::{self, Env, FillError};
 use std::io::Read;
 
 /// All that is printed of a sheet.
@@ -19,11 +19,11 @@ fn listing_of(heap: Global, sheet: &[u8]) -> Result<String, AllocError>
 }
 
 fn main(rt: HostRuntime) -> anyhow::Result<()> {
-    let arguments = env::args(&rt).context("the arguments cannot be read")?;
-    ensure!(
-        arguments.count() <= 1,
-        "no argument is wanted: list_tokens < SHEET"
-    );
+    // only an argument has to be text, and not the program's own name
+    if !matches!(rt.arg(1, &mut []), Err(FillError::NotPresent)) {
+        env::args(&rt).context("the arguments cannot be read")?;
+        bail!("no argument is wanted: list_tokens < SHEET");
+    }
     let mut sheet = Vec::new(rt.alloc());
     rt.stdin()
         .read_to_end(&mut sheet)

@@ -3,18 +3,18 @@
 //! A sheet comes as LENGTH:BYTES, with a comma and a line end behind it.
 #![tactic(auto)]
 
-use anyhow::{Context, ensure};
+use anyhow::{Context, bail, ensure};
 use batches::Cases;
 use listing::Listing;
-use std::env;
+use std::env::{self, Env, FillError};
 use std::io::Read;
 
 fn main(rt: HostRuntime) -> anyhow::Result<()> {
-    let arguments = env::args(&rt).context("the arguments cannot be read")?;
-    ensure!(
-        arguments.count() <= 1,
-        "no argument is wanted: sheet_cases < BATCH"
-    );
+    // only an argument has to be text, and not the program's own name
+    if !matches!(rt.arg(1, &mut []), Err(FillError::NotPresent)) {
+        env::args(&rt).context("the arguments cannot be read")?;
+        bail!("no argument is wanted: sheet_cases < BATCH");
+    }
     let mut input = Vec::new(rt.alloc());
     rt.stdin()
         .read_to_end(&mut input)

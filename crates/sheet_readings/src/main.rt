@@ -6,11 +6,12 @@
 ghost use Rattle.admission.specs.Admitting.{HasRoom};
 
 use admission::{MOST_FRAMES, STORE_BYTES, admit};
-use anyhow::{Context, ensure};
+use anyhow::{Context, bail, ensure};
 use batches::Cases;
 use load::Loaded;
+use std::env::{self, Env, FillError};
+use std::io;
 use std::io::{BufWriter, Read, Write};
-use std::{env, io};
 use table::checked;
 use transcript::transcribe_sheet;
 
@@ -69,11 +70,11 @@ fn write_groups<W: Write>(
 }
 
 fn main(rt: HostRuntime) -> anyhow::Result<()> {
-    let arguments = env::args(&rt).context("the arguments cannot be read")?;
-    ensure!(
-        arguments.count() <= 1,
-        "no argument is wanted: sheet_readings < BATCH"
-    );
+    // only an argument has to be text, and not the program's own name
+    if !matches!(rt.arg(1, &mut []), Err(FillError::NotPresent)) {
+        env::args(&rt).context("the arguments cannot be read")?;
+        bail!("no argument is wanted: sheet_readings < BATCH");
+    }
     let mut input = Vec::new(rt.alloc());
     rt.stdin()
         .read_to_end(&mut input)

@@ -7,10 +7,11 @@
 ghost use Rattle.admission.specs.Admitting.{HasRoom};
 
 use admission::{Line, MOST_FRAMES, STORE_BYTES, admit};
-use anyhow::{Context, ensure};
+use anyhow::{Context, bail, ensure};
 use batches::Cases;
+use std::env::{self, Env, FillError};
+use std::io;
 use std::io::{BufWriter, Read, Write};
-use std::{env, io};
 
 /// Writes a line for each table file of a batch. The memory has room for every table.
 fn write_lines<W: Write>(
@@ -35,11 +36,11 @@ fn write_lines<W: Write>(
 }
 
 fn main(rt: HostRuntime) -> anyhow::Result<()> {
-    let arguments = env::args(&rt).context("the arguments cannot be read")?;
-    ensure!(
-        arguments.count() <= 1,
-        "no argument is wanted: table_cases < BATCH"
-    );
+    // only an argument has to be text, and not the program's own name
+    if !matches!(rt.arg(1, &mut []), Err(FillError::NotPresent)) {
+        env::args(&rt).context("the arguments cannot be read")?;
+        bail!("no argument is wanted: table_cases < BATCH");
+    }
     let mut input = Vec::new(rt.alloc());
     rt.stdin()
         .read_to_end(&mut input)
