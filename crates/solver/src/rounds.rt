@@ -6,16 +6,19 @@ ghost use Rattle.solver.specs.Rounds.{with_rule, AllBottom, RisingTo, Settled};
 
 use crate::rule::Rule;
 use crate::value::Value;
-use symbols::nonterminal_index;
+use symbols::{START, nonterminal_index};
 
 /// The value of a token or a nonterminal, where the values are those of 32, 33 and so on. A nonterminal beyond the list is
 /// at bottom.
 pub fn symbol_value<V: Value>(symbol: u8, values: &[V]) -> V
     ensures { result ≡ value V.kind (valuation V.kind values.now) symbol }
 {
-    match nonterminal_index(symbol) {
-        Some(at) => values.get(at).copied().unwrap_or(V::bottom()),
-        None => V::of_token(symbol),
+    let Some(at) = nonterminal_index(symbol) else {
+        return V::of_token(symbol);
+    };
+    match values.get(at) {
+        Some(value) => *value,
+        None => V::bottom(),
     }
 }
 
@@ -50,6 +53,10 @@ fn apply<V: Value>(rule: &Rule<'_>, values: &mut [V]) -> bool
     ensures writes { values.new ≡ with_rule V.kind rule.now values.old }
     ensures says { MatchBool result (values.new ≢ values.old) (values.new ≡ values.old) }
 {
+    // nearly all links are of no nonterminal: with this test first, each of them costs one branch
+    if rule.left < START {
+        return false;
+    }
     match nonterminal_index(rule.left) {
         Some(at) if at < values.len() => {
             let by = product(rule, values);
@@ -60,6 +67,8 @@ fn apply<V: Value>(rule: &Rule<'_>, values: &mut [V]) -> bool
 }
 
 // Applies each rule once, and says whether a value changed. If one did, the values are higher in sum.
+// Not inlined: as one loop with the rounds, it would ask at each rule whether another round follows.
+#[inline(never)]
 fn round<V: Value>(rules: &[Rule<'_>], values: &mut [V]) -> bool
     requires { RisingTo V.kind rules.now values.old }
     ensures rising { RisingTo V.kind rules.now values.new }
