@@ -1,6 +1,6 @@
 use Rattle.std.proofs.Common.{Some, None, refl}
 use Rattle.items.proofs.Succeeding.{brought_told}
-use Rattle.items.proofs.closure.Marked.brings_in.Goals as goal
+use Rattle.items.proofs.closure.successors.Marked.brings_in.Goals as goal
 
 pub returns-in-Some : goal.returns-in-Some
 returns-in-Some c =

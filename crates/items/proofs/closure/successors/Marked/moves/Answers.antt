@@ -1,7 +1,7 @@
 use Rattle.std.proofs.Common.{◌≡◌, ◌/◌, ◌%◌, rules}
 use Rattle.items.specs.Nexts.{moved_by}
 use Rattle.items.proofs.Made.{made}
-use Rattle.items.proofs.closure.Marked.moves.Goals as goal
+use Rattle.items.proofs.closure.successors.Marked.moves.Goals as goal
 
 pub returns : goal.returns
 returns c =
