@@ -1,9 +1,10 @@
 //! The nonterminals that stand before a dot of the closure of a set. The solver finds them, along seeds and links.
-ghost use Rattle.std.specs.Prelude.{◌≡◌, ℕ, ◌<◌, length};
+ghost use Rattle.std.specs.Prelude.{◌≡◌, ℕ, ◌-◌, ◌/◌, ◌%◌, ◌<◌, cond, [], None, length, nat_lt};
 ghost use Rattle.std.proofs.Math.Option.{some};
 ghost use Rattle.grammar.specs.Grammar.{rule_at};
 ghost use Rattle.solver.specs.Solution.{rule_of, rules_of};
 ghost use Rattle.items.specs.Actives.{Active};
+ghost use Rattle.items.specs.Symbols.{entry_at, right_side};
 ghost use Rattle.items.specs.Closures.{no_link, rule_to, seed_at, last_link, last_at, link_at};
 
 use crate::place::{PLACES, Place};
@@ -32,13 +33,24 @@ pub fn link(right: &[u8], symbol: Option<u8>) -> Rule<'_>
     }
 }
 
-// The symbol just before the dot of a place of the set is a seed. Rules and places stay two parameters here: they become one
-// value, a closure, once its marks are found.
-fn seed_at(rules: &[Rule], places: &Places, place: Place) -> Rule<'static>
-    ensures { rule_of result ≡ seed_at rules.now places.now place.rule place.dot }
+// The symbol just before the dot of a place, by its number, is a seed. Not inlined: the loop over all numbers would divide each
+// of them, and nearly all are of places that no seed is made for.
+#[inline(never)]
+fn seed(rules: &[Rule], j: usize) -> Rule<'static>
+    requires { j < 427 }
+    ensures { rule_of result ≡ rule_to [] (cond (nat_lt 0 (j % 7)) (entry_at (right_side rules.now (j / 7)) (j % 7 - 1)) None) }
 {
-    if places.contains(place) {
-        link(&[], symbol_before(rules, place))
+    link(&[], symbol_before(rules, Place::numbered(j)))
+}
+
+// The seed of a place, by its number, if the set has it. Rules and places stay two parameters here: they become one value, a
+// closure, once its marks are found.
+fn seed_at(rules: &[Rule], places: &Places, j: usize) -> Rule<'static>
+    requires { j < 427 }
+    ensures { rule_of result ≡ seed_at rules.now places.now (j / 7) (j % 7) }
+{
+    if places.has_number(j) {
+        seed(rules, j)
     } else {
         no_link()
     }
@@ -61,25 +73,28 @@ fn link_at<'a>(rules: &'a [Rule<'a>], places: &Places, j: usize) -> Rule<'a>
     ensures { rule_of result ≡ link_at rules.now places.now j }
 {
     if j < PLACES {
-        seed_at(rules, places, Place::numbered(j))
+        seed_at(rules, places, j)
     } else {
         last_at(rules, j - PLACES)
     }
 }
 
-// All seeds, place by place, and then all links.
-fn links<'a>(rules: &'a [Rule<'a>], places: &Places) -> [Rule<'a>; 487]
-    ensures long { length result ≡ 487 }
-    ensures each { (j : ℕ) → j < 487 → rule_at (rules_of result) j ≡ some (link_at rules.now places.now j) }
+// Writes all seeds, place by place, and then all links. They are not returned: so long an array would be copied twice.
+fn write_links<'a>(rules: &'a [Rule<'a>], places: &Places, links: &mut [Rule<'a>; 487])
+    ensures long { length links.new ≡ 487 }
+    ensures each { (j : ℕ) → j < 487 → rule_at (rules_of links.new) j ≡ some (link_at rules.now places.now j) }
 {
-    std::array::from_fn(|j| link_at(rules, places, j))
+    for (j, found) in links.iter_mut().enumerate() {
+        *found = link_at(rules, places, j);
+    }
 }
 
 /// Which nonterminals stand before a dot of the closure of a set.
 pub fn active(rules: &[Rule<'_>], places: &Places) -> [Yes; 24]
     ensures { Active rules.now places.now result }
 {
-    let links = links(rules, places);
+    let mut links = [no_link(); 487];
+    write_links(rules, places, &mut links);
     let mut marks = [Yes(false); 24];
     solve(&links, &mut marks);
     marks

@@ -37,12 +37,14 @@ fn reach_at<'a>(rules: &'a [Rule<'a>], j: usize) -> Rule<'a>
     }
 }
 
-// All links, and the start symbol as the one seed.
-fn reach_links<'a>(rules: &'a [Rule<'a>]) -> [Rule<'a>; 361]
-    ensures long { length result ≡ 361 }
-    ensures each { (j : ℕ) → j < 361 → rule_at (rules_of result) j ≡ some (reach_at rules.now j) }
+// Writes all links, and the start symbol as the one seed. They are not returned: so long an array would be copied twice.
+fn write_reach_links<'a>(rules: &'a [Rule<'a>], links: &mut [Rule<'a>; 361])
+    ensures long { length links.new ≡ 361 }
+    ensures each { (j : ℕ) → j < 361 → rule_at (rules_of links.new) j ≡ some (reach_at rules.now j) }
 {
-    std::array::from_fn(|j| reach_at(rules, j))
+    for (j, found) in links.iter_mut().enumerate() {
+        *found = reach_at(rules, j);
+    }
 }
 
 /// Which nonterminals occur in a string derived from the start symbol.
@@ -50,7 +52,8 @@ fn reach_links<'a>(rules: &'a [Rule<'a>]) -> [Rule<'a>; 361]
 pub fn reachable(rules: &[Rule<'_>]) -> [Yes; 24]
     ensures { Reaches rules.now result }
 {
-    let links = reach_links(rules);
+    let mut links = [no_link(); 361];
+    write_reach_links(rules, &mut links);
     let mut marks = [Yes(false); 24];
     solve(&links, &mut marks);
     marks

@@ -1,5 +1,5 @@
 //! What a set of places has.
-ghost use Rattle.std.specs.Prelude.{◌≡◌, false, ◌&&◌, ◌||◌, Decides};
+ghost use Rattle.std.specs.Prelude.{◌≡◌, ◌/◌, ◌%◌, ◌<◌, false, ◌&&◌, ◌||◌, Decides};
 ghost use Rattle.grammar.specs.Item.{Item};
 ghost use Rattle.items.specs.Entries.{item_of, mentions};
 ghost use Rattle.items.specs.Sets.{has, alike, in_grid, same_item};
@@ -30,6 +30,14 @@ impl Places {
         ensures { result ≡ has self.now (item_of place) }
     {
         place.number().is_some_and(|j| self.marks[j])
+    }
+
+    // Whether the place with a number is in the set.
+    pub(crate) fn has_number(&self, j: usize) -> bool
+        requires { j < 427 }
+        ensures { result ≡ has self.now (record { rule = j / 7; dot = j % 7 }) }
+    {
+        self.marks[j]
     }
 
     /// Puts a place into the set; beyond the set's bounds there is none.
