@@ -1,7 +1,7 @@
 //! Bytes of a sheet as printable text.
 ghost use Rattle.std.specs.Prelude.{◌≡◌, Some};
 ghost use Rattle.std.specs.Fmt.{WritesOnOk};
-ghost use Rattle.listing.specs.Escapes.{plain, escape, escaped, escaped_text};
+ghost use Rattle.listing.specs.Escapes.{plain, lead, escape, escaped, escaped_text};
 
 use std::fmt;
 
@@ -17,11 +17,23 @@ fn is_plain(byte: u8) -> bool
     matches!(byte, b' '..=b'~') && byte != b'\\'
 }
 
+// Writes what stands before the digits of a byte. The zero is written here, since the library takes long to pad a number.
+fn write_lead<W: fmt::Write>(byte: u8, f: &mut fmt::Formatter<W>) -> fmt::Result
+    ensures { WritesOnOk W.Write.write_str_gives f.old result (lead byte) f.new }
+{
+    if byte < 0x10 {
+        f.write_str("\\x0")
+    } else {
+        f.write_str("\\x")
+    }
+}
+
 #[tactic(auto, using(crate::proofs::Escapes::put_escape))]
 fn write_escape<W: fmt::Write>(byte: u8, f: &mut fmt::Formatter<W>) -> fmt::Result
     ensures { WritesOnOk W.Write.write_str_gives f.old result (escape byte) f.new }
 {
-    write!(f, "\\x{byte:02X}")
+    write_lead(byte, f)?;
+    write!(f, "{byte:X}")
 }
 
 fn write_byte<W: fmt::Write>(byte: u8, f: &mut fmt::Formatter<W>) -> fmt::Result
