@@ -143,10 +143,12 @@ impl<'a> Form<'a> {
     }
 
     // Whether bytes are an entry of a section that stands behind another.
+    #[tactic(auto, using(crate::proofs::Orders::below_is))]
     fn follows(&self, section: Section, last: &[u8], entry: &[u8]) -> bool
         ensures { result ≡ (below last.now entry.now && entry_good (raw self.now.frames) section entry.now) }
     {
-        last < entry && self.is_entry(section, entry)
+        // By `cmp`: the partial order that `<` takes needs longer for each byte.
+        last.cmp(&entry).is_lt() && self.is_entry(section, entry)
     }
 
     // Whether the entries of a section are good and rise.
