@@ -235,9 +235,10 @@ impl<'a> Frames<'a> {
         ensures { result ≡ start_good (raw self.entry) i }
     {
         let start = self.start_at(i);
-        let rises = match i.checked_sub(1) {
-            None => start == 0,
-            Some(before) => self.start_at(before) < start,
+        let rises = if i == 0 {
+            start == 0
+        } else {
+            self.start_at(i - 1) < start
         };
         start < self.bytes && rises
     }
