@@ -122,7 +122,8 @@ impl<'a> Form<'a> {
     fn is_place(&self, rule: u8, dot: u8) -> bool
         ensures { result ≡ is_kernel_place (raw self.now.frames) rule dot }
     {
-        rule <= self.header.p && (dot as usize) < self.frames.right(rule).len()
+        let rules = self.header.p;
+        rule <= rules && (dot as usize) < self.frames.right_among(rules, rule).len()
     }
 
     // Whether bytes are an entry of a section.

@@ -108,7 +108,15 @@ impl<'a> Frames<'a> {
     pub fn right(self, r: u8) -> &'a [u8]
         ensures { result.now ≡ right_of (raw self.entry) r }
     {
-        if r == self.header().p {
+        self.right_among(self.header().p, r)
+    }
+
+    // The same where the number of rules is known, which is that of the start rule.
+    pub(crate) fn right_among(self, rules: u8, r: u8) -> &'a [u8]
+        requires { rules ≡ (header_of (raw self)).p }
+        ensures { result.now ≡ right_of (raw self.entry) r }
+    {
+        if r == rules {
             return &START_RIGHT;
         }
         behind(self.frame(1 + r as u16), 2)
