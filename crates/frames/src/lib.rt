@@ -5,6 +5,6 @@ mod form;
 mod frames;
 mod header;
 
-pub use form::form_stands;
+pub use form::judging::form_stands;
 pub use frames::Frames;
 pub use header::{Header, Section};
