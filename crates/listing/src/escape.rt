@@ -33,7 +33,8 @@ fn write_escape<W: fmt::Write>(byte: u8, f: &mut fmt::Formatter<W>) -> fmt::Resu
     ensures { WritesOnOk W.Write.write_str_gives f.old result (escape byte) f.new }
 {
     write_lead(byte, f)?;
-    write!(f, "{byte:X}")
+    // The width pads nothing: the library writes a number with a width faster than one with none.
+    write!(f, "{byte:1X}")
 }
 
 fn write_byte<W: fmt::Write>(byte: u8, f: &mut fmt::Formatter<W>) -> fmt::Result
