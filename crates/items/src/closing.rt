@@ -79,7 +79,7 @@ fn link_at<'a>(rules: &'a [Rule<'a>], places: &Places, j: usize) -> Rule<'a>
     }
 }
 
-// Writes all seeds, place by place, and then all links. They are not returned: so long an array would be copied twice.
+// Writes all seeds, place by place, and then all links. They are not returned: so long an array may be copied on its way.
 fn write_links<'a>(rules: &'a [Rule<'a>], places: &Places, links: &mut [Rule<'a>; 487])
     ensures long { length links.new ≡ 487 }
     ensures each { (j : ℕ) → j < 487 → rule_at (rules_of links.new) j ≡ some (link_at rules.now places.now j) }

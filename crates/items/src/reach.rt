@@ -37,7 +37,7 @@ fn reach_at<'a>(rules: &'a [Rule<'a>], j: usize) -> Rule<'a>
     }
 }
 
-// Writes all links, and the start symbol as the one seed. They are not returned: so long an array would be copied twice.
+// Writes all links, and the start symbol as the one seed. They are not returned: so long an array may be copied on its way.
 fn write_reach_links<'a>(rules: &'a [Rule<'a>], links: &mut [Rule<'a>; 361])
     ensures long { length links.new ≡ 361 }
     ensures each { (j : ℕ) → j < 361 → rule_at (rules_of links.new) j ≡ some (reach_at rules.now j) }

@@ -19,7 +19,7 @@ fn listing_of(heap: Global, sheet: &[u8]) -> Result<String, AllocError>
 }
 
 fn main(rt: HostRuntime) -> anyhow::Result<()> {
-    // only an argument has to be text, and not the program's own name
+    // where there is none, nothing has to be text, not even the program's own name
     if !matches!(rt.arg(1, &mut []), Err(FillError::NotPresent)) {
         env::args(&rt).context("the arguments cannot be read")?;
         bail!("no argument is wanted: list_tokens < SHEET");

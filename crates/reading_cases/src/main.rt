@@ -102,7 +102,7 @@ fn write_groups<W: Write>(
 }
 
 fn main(rt: HostRuntime) -> anyhow::Result<()> {
-    // only an argument has to be text, and not the program's own name
+    // where there is none, nothing has to be text, not even the program's own name
     if !matches!(rt.arg(1, &mut []), Err(FillError::NotPresent)) {
         env::args(&rt).context("the arguments cannot be read")?;
         bail!("no argument is wanted: reading_cases < BATCH");

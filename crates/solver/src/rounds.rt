@@ -13,6 +13,7 @@ use symbols::{START, nonterminal_index};
 pub fn symbol_value<V: Value>(symbol: u8, values: &[V]) -> V
     ensures { result ≡ value V.kind (valuation V.kind values.now) symbol }
 {
+    // no `copied` and `unwrap_or`: a large value would be copied once more, and bottom made even where there is a value
     let Some(at) = nonterminal_index(symbol) else {
         return V::of_token(symbol);
     };
@@ -53,7 +54,7 @@ fn apply<V: Value>(rule: &Rule<'_>, values: &mut [V]) -> bool
     ensures writes { values.new ≡ with_rule V.kind rule.now values.old }
     ensures says { MatchBool result (values.new ≢ values.old) (values.new ≡ values.old) }
 {
-    // nearly all links are of no nonterminal: with this test first, each of them costs one branch
+    // many of the rules that are handed in may be of no nonterminal: with this test first, each of them costs one branch
     if rule.left < START {
         return false;
     }
